@@ -1,0 +1,1 @@
+// Tables of rows in rising key order, over lent slices.

@@ -1,0 +1,11 @@
+// The nine requests.
+pub mod request;
+
+pub use request::Cancellation;
+pub use request::Closing;
+pub use request::Inclusion;
+pub use request::IntermediationCall;
+pub use request::NewIntermediation;
+pub use request::NewTrade;
+pub use request::Request;
+pub use request::SideCall;
