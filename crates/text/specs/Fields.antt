@@ -1,12 +1,12 @@
 -- The fields of a line, and what a field reads as.
 use mathlib.Core.Bool.{Bool, true, false, cond, _&&_}
 use mathlib.Core.List.{List, [], _∷_}
-use Prim.Native.Nat.{ℕ, _+_, _-_, _*_}
+use Prim.Native.Nat.{ℕ, _+_, _-_, _*_, min}
 use lib.Dec.{leb, eqb}
 use Rattle.std.specs.declared.option.Option.{Option}
 use Rattle.std.specs.declared.option.Option.the-variants.{Some, None}
 use Rattle.fields.specs.declared.range.Range.{Range}
-use Rattle.fields.specs.Ranges.{in-range}
+use Rattle.fields.specs.Ranges.{in-range, from-to}
 
 -- b in front of the first part
 abbrev pub on-first : ℕ → List (List ℕ) → List (List ℕ)
@@ -49,6 +49,10 @@ within r (Some v) = cond (in-range r v) (Some v) None
 -- a number of the range
 abbrev pub number : Range → List ℕ → Option ℕ
 number r f = within r (numeral f)
+
+-- the numbers of the range that 32 bits hold
+abbrev pub narrow : Range → Range
+narrow r = from-to (r .least) (min (r .most) 4294967295)
 
 -- a field of one byte
 abbrev pub single : List ℕ → Option ℕ

@@ -9,3 +9,4 @@ pub use cuts::split_letter;
 pub use next::read_end;
 pub use next::read_letter;
 pub use next::read_number;
+pub use next::read_u32;

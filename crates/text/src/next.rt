@@ -1,7 +1,7 @@
 ghost use mathlib.Core.Path.{_≡_};
 ghost use Prim.Native.Nat.{_≤_};
 ghost use Rattle.std.specs.Vec.{made};
-ghost use Rattle.text.specs.Fields.{number as numberIn, single};
+ghost use Rattle.text.specs.Fields.{narrow, number as numberIn, single};
 ghost use Rattle.text.specs.Cuts.{left, seen};
 ghost use Rattle.text.specs.Reading.{field, end};
 use crate::cuts::split_letter;
@@ -22,6 +22,15 @@ pub fn read_number<'a>(rest: &'a [u8], place: usize, range: Range) -> Result<(u6
         return Err(Refusal { ground: Ground::BadField, place });
     };
     Ok((value, rest))
+}
+
+// The same, where 32 bits are enough for the range; greater numbers do not read.
+pub fn read_u32<'a>(rest: &'a [u8], place: usize, range: Range) -> Result<(u32, &'a [u8]), Refusal>
+    ensures { λ r. ⌜ field (numberIn (narrow range)) place (left (now (rest .entry))) ≡ seen r ⌝ }
+{
+    let narrow = Range { least: range.least, most: range.most.min(u32::MAX as u64) };
+    let (value, rest) = read_number(rest, place, narrow)?;
+    Ok((value as u32, rest))
 }
 
 // The one letter in the next field.
