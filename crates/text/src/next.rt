@@ -26,7 +26,8 @@ pub fn read_number<'a>(rest: &'a [u8], place: usize, range: Range) -> Result<(u6
 
 // The same, where 32 bits are enough for the range; greater numbers do not read.
 pub fn read_u32<'a>(rest: &'a [u8], place: usize, range: Range) -> Result<(u32, &'a [u8]), Refusal>
-    ensures { λ r. ⌜ field (numberIn (narrow range)) place (left (now (rest .entry))) ≡ seen r ⌝ }
+    ensures reads { λ r. ⌜ field (numberIn (narrow range)) place (left (now (rest .entry))) ≡ seen r ⌝ }
+    ensures small { λ r. ⌜ made r (λ p. p .0 ≤ range .most) ⌝ }
 {
     let narrow = Range { least: range.least, most: range.most.min(u32::MAX as u64) };
     let (value, rest) = read_number(rest, place, narrow)?;
