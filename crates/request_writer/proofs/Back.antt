@@ -37,7 +37,8 @@ use Rattle.requests.specs.declared.request.Closing.{Closing}
 use Rattle.request_text.specs.Letters.{kind, side}
 use Rattle.request_text.specs.Entries.{entries}
 use Rattle.request_text.specs.Lines.{request, of-fields, side-call-line, intermediation-call-line}
-use Rattle.request_writer.specs.Canonical.{pieces-of, request-line, tidy, kind-letter, side-letter, flag, entry-pieces, side-call-pieces, intermediation-call-pieces, Sixteen}
+use Rattle.request_writer.specs.RoundTrip.{Reads-back}
+use Rattle.request_writer.specs.Canonical.{pieces-of, request-line, tidy, kind-letter, side-letter, flag, entry-pieces, side-call-pieces, intermediation-call-pieces}
 use Rattle.request_writer.proofs.Plain.{No-comma, Plain, texts, no-comma-decimal, number-back, fields-line}
 
 -- every test passed: each number is in its range
@@ -183,8 +184,19 @@ close-back c h =
     (plain minutes (c .minute) (omega arith) (p .0), (plain days (c .day) (omega arith) (p .1 .0), tt))
     (rw (back minutes (c .minute) (omega arith) (p .0), back days (c .day) (omega arith) (p .1 .0)))
 
--- every request
-pub request-back : (v : Request) → Sixteen v → fields-pass v ≡ Ok tt → request (request-line v) ≡ Ok (tidy v)
+-- every request whose table of entries has sixteen places, as its type says
+abbrev pub Sixteen : Request → Type 0
+Sixteen (Capture c) = Unit {0}
+Sixteen (Cancel c) = Unit {0}
+Sixteen (Include c) = length (c .entries) ≡ 16
+Sixteen (Remove c) = Unit {0}
+Sixteen (Confirm c) = Unit {0}
+Sixteen (Intermediate c) = Unit {0}
+Sixteen (ConfirmIntermediation c) = Unit {0}
+Sixteen (ExcludeIntermediation c) = Unit {0}
+Sixteen (Close c) = Unit {0}
+
+pub request-back : (v : Request) → Sixteen v → Reads-back v
 request-back (Capture c) n h = capture-back c h
 request-back (Cancel c) n h = cancel-back c h
 request-back (Include c) n h = include-back c n h
@@ -194,3 +206,15 @@ request-back (Intermediate c) n h = intermediate-back c h
 request-back (ConfirmIntermediation c) n h = from-texts 71 (intermediation-call-pieces c) (λ e. omega arith) (ConfirmIntermediation c) (call-plain c h) (rw (call-back c h))
 request-back (ExcludeIntermediation c) n h = from-texts 69 (intermediation-call-pieces c) (λ e. omega arith) (ExcludeIntermediation c) (call-plain c h) (rw (call-back c h))
 request-back (Close c) n h = close-back c h
+
+-- what is no inclusion has no table
+pub other-back : (v : Request) → ((c : Inclusion) → v ≡ Include c → ⊥) → Reads-back v
+other-back (Capture c) other = request-back (Capture c) tt
+other-back (Cancel c) other = request-back (Cancel c) tt
+other-back (Include c) other = absurd (other c refl)
+other-back (Remove c) other = request-back (Remove c) tt
+other-back (Confirm c) other = request-back (Confirm c) tt
+other-back (Intermediate c) other = request-back (Intermediate c) tt
+other-back (ConfirmIntermediation c) other = request-back (ConfirmIntermediation c) tt
+other-back (ExcludeIntermediation c) other = request-back (ExcludeIntermediation c) tt
+other-back (Close c) other = request-back (Close c) tt

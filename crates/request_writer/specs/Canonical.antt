@@ -1,9 +1,8 @@
 -- The canonical line of a request: the one way of writing it.
-use mathlib.Core.Path.{_≡_}
 use mathlib.Core.Bool.{Bool, cond}
 use mathlib.Core.List.{List, [], _∷_}
 use Prim.Native.Nat.{ℕ}
-use lib.ListN.{length, take}
+use lib.ListN.{take}
 use Rattle.fields.specs.declared.account.Party.{Party}
 use Rattle.fields.specs.declared.trade.Entry.{Entry}
 use Rattle.fields.specs.declared.trade.Kind.{Kind}
@@ -96,15 +95,3 @@ tidy (Intermediate c) = Intermediate c
 tidy (ConfirmIntermediation c) = ConfirmIntermediation c
 tidy (ExcludeIntermediation c) = ExcludeIntermediation c
 tidy (Close c) = Close c
-
--- the table of entries has sixteen places, as the type of an inclusion says
-abbrev pub Sixteen : Request → Type 0
-Sixteen (Capture c) = Unit {0}
-Sixteen (Cancel c) = Unit {0}
-Sixteen (Include c) = length (c .entries) ≡ 16
-Sixteen (Remove c) = Unit {0}
-Sixteen (Confirm c) = Unit {0}
-Sixteen (Intermediate c) = Unit {0}
-Sixteen (ConfirmIntermediation c) = Unit {0}
-Sixteen (ExcludeIntermediation c) = Unit {0}
-Sixteen (Close c) = Unit {0}

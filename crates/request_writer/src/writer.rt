@@ -1,11 +1,13 @@
 ghost use mathlib.Core.Path.{_≡_};
+ghost use mathlib.Core.Bool.{true};
+ghost use Rattle.std.specs.Results.{isOk};
 ghost use mathlib.Core.List.{_++_};
 ghost use Prim.Native.Nat.{_+_, _*_, _≤_};
 ghost use lib.ListN.{length, set, take};
-ghost use Rattle.std.specs.declared.result.Result.the-variants.{Ok};
 ghost use Rattle.writing.specs.Written.{line-of, sent, with-line};
 ghost use Rattle.writing.specs.declared.piece.Piece.the-variants.{Number};
 ghost use Rattle.requests.specs.declared.request.Request.the-variants.{Capture, Include, Intermediate};
+ghost use Rattle.request_writer.specs.RoundTrip.{Reads-back};
 ghost use Rattle.request_writer.specs.Canonical.{entry-pieces, flag as flagOf, inclusion-head, inclusion-pieces, intermediation-call-pieces, kind-letter, pieces-of, request-line, side-call-pieces, side-letter};
 use fields::Entry;
 use fields::Kind;
@@ -48,6 +50,7 @@ fn flag(now: bool) -> u64
 fn write_new_trade(out: &mut [u8], c: &NewTrade) -> Result<usize, Refusal>
     ensures value { λ r. ⌜ r ≡ sent (line-of 67 (pieces-of (Capture (now (c .entry))))) (now (out .entry)) ⌝ }
     ensures after { λ _. ⌜ now (out .exit) ≡ with-line (line-of 67 (pieces-of (Capture (now (c .entry))))) (now (out .entry)) ⌝ }
+    ensures enough { λ r. ⌜ (1135 ≤ length (now (out .entry)) → isOk r ≡ true) ⌝ }
 {
     let t = c.terms;
     let pieces = [
@@ -102,6 +105,7 @@ fn head_of_inclusion(c: &Inclusion) -> [Piece; 54]
 fn write_inclusion(out: &mut [u8], c: &Inclusion) -> Result<usize, Refusal>
     ensures value { λ r. ⌜ r ≡ sent (line-of 73 (inclusion-pieces (now (c .entry)))) (now (out .entry)) ⌝ }
     ensures after { λ _. ⌜ now (out .exit) ≡ with-line (line-of 73 (inclusion-pieces (now (c .entry)))) (now (out .entry)) ⌝ }
+    ensures enough { λ r. ⌜ (1135 ≤ length (now (out .entry)) → isOk r ≡ true) ⌝ }
 {
     let count = c.count.min(16);
     let mut pieces = head_of_inclusion(c);
@@ -112,6 +116,7 @@ fn write_inclusion(out: &mut [u8], c: &Inclusion) -> Result<usize, Refusal>
 fn write_side_call(out: &mut [u8], letter: u8, c: &SideCall) -> Result<usize, Refusal>
     ensures value { λ r. ⌜ r ≡ sent (line-of letter (side-call-pieces (now (c .entry)))) (now (out .entry)) ⌝ }
     ensures after { λ _. ⌜ now (out .exit) ≡ with-line (line-of letter (side-call-pieces (now (c .entry)))) (now (out .entry)) ⌝ }
+    ensures enough { λ r. ⌜ (1135 ≤ length (now (out .entry)) → isOk r ≡ true) ⌝ }
 {
     let pieces = [
         Piece::Number(c.minute as u64),
@@ -125,6 +130,7 @@ fn write_side_call(out: &mut [u8], letter: u8, c: &SideCall) -> Result<usize, Re
 fn write_new_intermediation(out: &mut [u8], c: &NewIntermediation) -> Result<usize, Refusal>
     ensures value { λ r. ⌜ r ≡ sent (line-of 74 (pieces-of (Intermediate (now (c .entry))))) (now (out .entry)) ⌝ }
     ensures after { λ _. ⌜ now (out .exit) ≡ with-line (line-of 74 (pieces-of (Intermediate (now (c .entry))))) (now (out .entry)) ⌝ }
+    ensures enough { λ r. ⌜ (1135 ≤ length (now (out .entry)) → isOk r ≡ true) ⌝ }
 {
     let i = c.intermediation;
     let pieces = [
@@ -142,6 +148,7 @@ fn write_new_intermediation(out: &mut [u8], c: &NewIntermediation) -> Result<usi
 fn write_intermediation_call(out: &mut [u8], letter: u8, c: &IntermediationCall) -> Result<usize, Refusal>
     ensures value { λ r. ⌜ r ≡ sent (line-of letter (intermediation-call-pieces (now (c .entry)))) (now (out .entry)) ⌝ }
     ensures after { λ _. ⌜ now (out .exit) ≡ with-line (line-of letter (intermediation-call-pieces (now (c .entry)))) (now (out .entry)) ⌝ }
+    ensures enough { λ r. ⌜ (1135 ≤ length (now (out .entry)) → isOk r ≡ true) ⌝ }
 {
     let pieces = [
         Piece::Number(c.minute as u64),
@@ -151,10 +158,11 @@ fn write_intermediation_call(out: &mut [u8], letter: u8, c: &IntermediationCall)
     write_line(out, letter, &pieces)
 }
 
-// Writes the canonical line of a request.
-pub fn write_request(out: &mut [u8], request: &Request) -> Result<usize, Refusal>
+// The line of each kind of request.
+fn write_kind(out: &mut [u8], request: &Request) -> Result<usize, Refusal>
     ensures value { λ r. ⌜ r ≡ sent (request-line (now (request .entry))) (now (out .entry)) ⌝ }
     ensures after { λ _. ⌜ now (out .exit) ≡ with-line (request-line (now (request .entry))) (now (out .entry)) ⌝ }
+    ensures enough { λ r. ⌜ (1135 ≤ length (now (out .entry)) → isOk r ≡ true) ⌝ }
 {
     match request {
         Request::Capture(c) => write_new_trade(out, c),
@@ -171,4 +179,32 @@ pub fn write_request(out: &mut [u8], request: &Request) -> Result<usize, Refusal
             write_line(out, b'Z', &[Piece::Number(c.minute as u64), Piece::Number(c.day as u64)])
         }
     }
+}
+
+// An inclusion whose fields pass reads back: its table has room for its entries.
+fn inclusion_law(c: &Inclusion)
+    ensures { λ _. ⌜ Reads-back (Include (now (c .entry))) ⌝ }
+{
+    let _all = &c.entries[0..16];
+}
+
+// A request whose fields pass reads back from its canonical line.
+fn back_law(request: &Request)
+    ensures { λ _. ⌜ Reads-back (now (request .entry)) ⌝ }
+{
+    if let Request::Include(c) = request {
+        inclusion_law(c);
+    }
+}
+
+// Writes the canonical line of a request, for which 1,135 bytes are enough.
+// Where its fields pass, the line reads back as the request.
+pub fn write_request(out: &mut [u8], request: &Request) -> Result<usize, Refusal>
+    ensures value { λ r. ⌜ r ≡ sent (request-line (now (request .entry))) (now (out .entry)) ⌝ }
+    ensures after { λ _. ⌜ now (out .exit) ≡ with-line (request-line (now (request .entry))) (now (out .entry)) ⌝ }
+    ensures enough { λ r. ⌜ (1135 ≤ length (now (out .entry)) → isOk r ≡ true) ⌝ }
+    ensures back { λ _. ⌜ Reads-back (now (request .entry)) ⌝ }
+{
+    back_law(request);
+    write_kind(out, request)
 }

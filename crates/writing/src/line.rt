@@ -1,5 +1,7 @@
 ghost use mathlib.Core.Path.{_≡_};
-ghost use Prim.Native.Nat.{_+_, _≤_, _<_};
+ghost use mathlib.Core.Bool.{true};
+ghost use Rattle.std.specs.Results.{isOk};
+ghost use Prim.Native.Nat.{_+_, _*_, _≤_, _<_};
 ghost use lib.Dec.{leb};
 ghost use lib.ListN.{length};
 ghost use Rattle.std.specs.Written.{decimal};
@@ -60,7 +62,8 @@ fn write_piece(out: &mut [u8], at: usize, piece: Piece) -> usize
 
 // Whether the fields, a comma before each, have room.
 fn has_room(pieces: &[Piece], room: usize) -> bool
-    ensures { λ r. ⌜ r ≡ leb (length (commaed (now (pieces .entry)))) room ⌝ }
+    ensures value { λ r. ⌜ r ≡ leb (length (commaed (now (pieces .entry)))) room ⌝ }
+    ensures enough { λ r. ⌜ (21 * length (now (pieces .entry)) ≤ room → r ≡ true) ⌝ }
 {
     let mut left = room;
     for piece in pieces {
@@ -88,10 +91,11 @@ fn write_fields(out: &mut [u8], start: usize, pieces: &[Piece]) -> usize
 }
 
 // Writes a letter and the fields behind it, and tells how many bytes that took. The bytes behind stay;
-// a buffer that is too short stays whole.
+// a buffer that is too short stays whole. A byte for the letter and 21 for each field are enough.
 pub fn write_line(out: &mut [u8], letter: u8, pieces: &[Piece]) -> Result<usize, Refusal>
     ensures value { λ r. ⌜ r ≡ sent (line-of letter (now (pieces .entry))) (now (out .entry)) ⌝ }
     ensures after { λ _. ⌜ now (out .exit) ≡ with-line (line-of letter (now (pieces .entry))) (now (out .entry)) ⌝ }
+    ensures enough { λ r. ⌜ (1 + 21 * length (now (pieces .entry)) ≤ length (now (out .entry)) → isOk r ≡ true) ⌝ }
 {
     let short = Refusal { ground: Ground::BufferShort, place: 0 };
     if out.is_empty() || !has_room(pieces, out.len() - 1) {

@@ -14,4 +14,5 @@ returns c =
         ∙ ap (λ l. l ++ entry-pieces (take (c .args .c .now .count) (c .args .c .now .entries))) (c .head-of-inclusion-pieces .ensures) in
     record {
       value = c .write-line .ensures .value ∙ ap (λ ps. sent (line-of 73 ps) (c .args .out .now)) e;
-      after = c .write-line .ensures .after ∙ ap (λ ps. with-line (line-of 73 ps) (c .args .out .now)) e }
+      after = c .write-line .ensures .after ∙ ap (λ ps. with-line (line-of 73 ps) (c .args .out .now)) e;
+      enough = λ h. c .write-line .ensures .enough (search needs) }

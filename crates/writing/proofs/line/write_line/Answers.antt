@@ -1,4 +1,4 @@
-use mathlib.Core.Path.{_≡_, _∙_, sym, ap}
+use mathlib.Core.Path.{_≡_, refl, _∙_, sym, ap}
 use mathlib.Core.Bool.{cond, true}
 use native.Mathlib.Omega.{arith}
 use Prim.Native.Nat.{suc, _<_, _-_}
@@ -16,4 +16,4 @@ returns c =
     let some : 0 < length (c .args .out .now) = search needs in
     let e = line-fits (c .args .letter) (c .args .pieces .now) (c .args .out .now) some room in
     let n : c .write-fields .result ≡ suc (length (commaed (c .args .pieces .now))) = omega (arith, c .write-fields .ensures .value) in
-    record { value = rw e (ap Ok n); after = rw e (c .write-fields .ensures .after ∙ line-over (c .args .letter) (c .args .pieces .now) (c .args .out .now)) }
+    record { value = rw e (ap Ok n); after = rw e (c .write-fields .ensures .after ∙ line-over (c .args .letter) (c .args .pieces .now) (c .args .out .now)); enough = λ h. refl }
