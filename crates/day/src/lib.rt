@@ -1,5 +1,4 @@
 // A whole day, from the bytes of its texts to the bytes of its answers.
-pub mod input;
-pub mod output;
+pub mod whole;
 
-pub use input::run;
+pub use whole::run;

@@ -100,8 +100,8 @@ module _ {B : Type 0} (Q : B → Type 0) where
   by-party k fs go at next more =
       let P : Party × List (List ℕ) → Type 0 = λ p. (in-range participants (p .0 .participant) ≡ true) × (in-range participants (p .0 .offeror) ≡ true) in
       let read : Sound P (party k fs) =
-          then-sound P (λ p. in-range participants (p .0) ≡ true) (field (number participants) k fs) _ (number-sound participants k fs at) (λ p hp.
-          then-sound P (λ o. in-range participants (o .0) ≡ true) (field (number participants) (k + 1) (p .1)) _ (number-sound participants (k + 1) (p .1) next) (λ o ho. (hp, ho))) in
+      then-sound P (λ p. in-range participants (p .0) ≡ true) (field (number participants) k fs) _ (number-sound participants k fs at) (λ p hp.
+      then-sound P (λ o. in-range participants (o .0) ≡ true) (field (number participants) (k + 1) (p .1)) _ (number-sound participants (k + 1) (p .1) next) (λ o ho. (hp, ho))) in
       then-sound Q P (party k fs) go read (λ p h. more (p .0) (p .1) h)
 
 abbrev Passes : Request → Type 0

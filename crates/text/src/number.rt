@@ -11,7 +11,7 @@ fn figures<'a>(text: &'a [u8], most: u64) -> Option<(u64, &'a [u8])>
     ensures { λ r. ⌜ Cases r (up-to most (behind 0 (front (now (text .entry)))) ≡ None)
         (λ p. (up-to most (behind 0 (front (now (text .entry)))) ≡ Some (p .0)) × (now (p .1) ≡ after (now (text .entry)))) ⌝ }
 {
-    let mut value: u64 = 0;
+    let mut total: u64 = 0;
     let mut rest = text;
     while let [b, tail @ ..] = rest {
         if *b == b',' {
@@ -21,16 +21,16 @@ fn figures<'a>(text: &'a [u8], most: u64) -> Option<(u64, &'a [u8])>
             return None;
         }
         let figure = (*b - b'0') as u64;
-        if value > most / 10 {
+        if total > most / 10 {
             return None;
         }
-        if figure > most - value * 10 {
+        if figure > most - total * 10 {
             return None;
         }
-        value = value * 10 + figure;
+        total = total * 10 + figure;
         rest = tail;
     }
-    Some((value, rest))
+    Some((total, rest))
 }
 
 // The number of the range that stands before the comma or the end, and what follows it.

@@ -7,15 +7,15 @@ use Rattle.text.proofs.Scan.{behind-more, onward-more, over, ended, at-comma}
 use Rattle.text.proofs.number.figures.Needs as need
 use Rattle.text.proofs.number.figures.Needs.{in-rest, in-len1-up·then-b-eq44}
 
-pub returns-then-value-most : need.returns-then-value-most
-returns-then-value-most c =
+pub returns-then-total-most : need.returns-then-total-most
+returns-then-total-most c =
     let is = first-rest (c .loop-rest .rest .now) 0 (search needs) in
-    ap (up-to (c .args .most)) (c .loop-rest .inv .1) ∙ over (c .loop-rest .value) (c .args .most) _ _ _ is (c .if-b-eq44 .left) (omega arith) (omega arith) (omega arith)
+    ap (up-to (c .args .most)) (c .loop-rest .inv .1) ∙ over (c .loop-rest .total) (c .args .most) _ _ _ is (c .if-b-eq44 .left) (omega arith) (omega arith) (omega arith)
 
 pub returns-then-figure-most : need.returns-then-figure-most
 returns-then-figure-most c =
     let is = first-rest (c .loop-rest .rest .now) 0 (search needs) in
-    ap (up-to (c .args .most)) (c .loop-rest .inv .1) ∙ over (c .loop-rest .value) (c .args .most) _ _ _ is (c .if-b-eq44 .left) (omega arith) (omega arith) (omega arith)
+    ap (up-to (c .args .most)) (c .loop-rest .inv .1) ∙ over (c .loop-rest .total) (c .args .most) _ _ _ is (c .if-b-eq44 .left) (omega arith) (omega arith) (omega arith)
 
 pub loop-rest-again : need.loop-rest-again
 loop-rest-again c =
@@ -25,6 +25,6 @@ loop-rest-again c =
 pub returns : need.returns
 returns c =
     elim (c .if-rest-lt1 .came) [
-      in-rest w ↦ let e = ended (c .loop-rest .value) (c .args .most) (c .loop-rest .rest .now) (omega arith) (search needs) in (ap (up-to (c .args .most)) (c .loop-rest .inv .1) ∙ e .0, sym (c .loop-rest .inv .2 ∙ e .1))
-    | in-len1-up·then-b-eq44 w ↦ let e = at-comma (c .loop-rest .value) (c .args .most) (c .loop-rest .rest .now) (omega arith) (search needs) (w .if-b-eq44 .taken) in (ap (up-to (c .args .most)) (c .loop-rest .inv .1) ∙ e .0, sym (c .loop-rest .inv .2 ∙ e .1))
+      | in-rest w ↦ let e = ended (c .loop-rest .total) (c .args .most) (c .loop-rest .rest .now) (omega arith) (search needs) in (ap (up-to (c .args .most)) (c .loop-rest .inv .1) ∙ e .0, sym (c .loop-rest .inv .2 ∙ e .1))
+      | in-len1-up·then-b-eq44 w ↦ let e = at-comma (c .loop-rest .total) (c .args .most) (c .loop-rest .rest .now) (omega arith) (search needs) (w .if-b-eq44 .taken) in (ap (up-to (c .args .most)) (c .loop-rest .inv .1) ∙ e .0, sym (c .loop-rest .inv .2 ∙ e .1))
     ]

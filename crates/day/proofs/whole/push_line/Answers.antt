@@ -2,7 +2,7 @@ use mathlib.Core.Path.{refl, _∙_}
 use mathlib.Core.List.{[], _∷_, append-assoc}
 use Rattle.std.specs.Of.Vec.{vec-items}
 use Rattle.std.proofs.shelf.Parts.{pushed}
-use Rattle.day.proofs.output.push_line.Needs as need
+use Rattle.day.proofs.whole.push_line.Needs as need
 
 pub returns : need.returns
 returns c =

@@ -3,7 +3,7 @@ use mathlib.Core.List.{_++_, append-assoc}
 use Rattle.std.specs.Of.Vec.{vec-items}
 use Rattle.text.specs.Fields.{lines}
 use Rattle.day.specs.Day.{ended, reply, replies}
-use Rattle.day.proofs.input.push_replies.Needs as need
+use Rattle.day.proofs.whole.push_replies.Needs as need
 
 pub loop-line-again : need.loop-line-again
 loop-line-again c =
