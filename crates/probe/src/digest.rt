@@ -66,8 +66,14 @@ fn of_new_trade(c: &NewTrade) -> u64
     ensures { λ r. ⌜ r ≡ of-request (Capture (now (c .entry))) ⌝ }
 {
     let t = c.terms;
-    let h = mix(mix(mix(1, c.minute as u64), t.number as u64), kind_code(t.kind));
-    let h = mix(mix(mix(h, t.asset as u64), t.quantity as u64), t.settlement as u64);
+    let h = mix(
+        mix(mix(1, c.minute as u64), t.number as u64),
+        kind_code(t.kind),
+    );
+    let h = mix(
+        mix(mix(h, t.asset as u64), t.quantity as u64),
+        t.settlement as u64,
+    );
     let h = mix(mix(h, t.buyer.participant as u64), t.buyer.offeror as u64);
     mix(mix(h, t.seller.participant as u64), t.seller.offeror as u64)
 }
@@ -75,7 +81,10 @@ fn of_new_trade(c: &NewTrade) -> u64
 fn of_inclusion(c: &Inclusion) -> u64
     ensures { λ r. ⌜ r ≡ of-request (Include (now (c .entry))) ⌝ }
 {
-    let h = mix(mix(mix(3, c.minute as u64), c.participant as u64), c.trade as u64);
+    let h = mix(
+        mix(mix(3, c.minute as u64), c.participant as u64),
+        c.trade as u64,
+    );
     let h = mix(mix(mix(h, side_code(c.side)), flag(c.now)), c.count as u64);
     add_entries(h, &c.entries)
 }
@@ -83,22 +92,37 @@ fn of_inclusion(c: &Inclusion) -> u64
 fn of_side_call(start: u64, c: &SideCall) -> u64
     ensures { λ r. ⌜ r ≡ mix-all start (now (c .entry) .minute ∷ now (c .entry) .participant ∷ now (c .entry) .trade ∷ side-code (now (c .entry) .side) ∷ []) ⌝ }
 {
-    mix(mix(mix(mix(start, c.minute as u64), c.participant as u64), c.trade as u64), side_code(c.side))
+    mix(
+        mix(
+            mix(mix(start, c.minute as u64), c.participant as u64),
+            c.trade as u64,
+        ),
+        side_code(c.side),
+    )
 }
 
 fn of_new_intermediation(c: &NewIntermediation) -> u64
     ensures { λ r. ⌜ r ≡ of-request (Intermediate (now (c .entry))) ⌝ }
 {
     let i = c.intermediation;
-    let h = mix(mix(mix(6, c.minute as u64), i.participant as u64), i.id as u64);
-    let h = mix(mix(mix(h, i.account as u64), i.bought as u64), i.sold as u64);
+    let h = mix(
+        mix(mix(6, c.minute as u64), i.participant as u64),
+        i.id as u64,
+    );
+    let h = mix(
+        mix(mix(h, i.account as u64), i.bought as u64),
+        i.sold as u64,
+    );
     mix(h, flag(c.now))
 }
 
 fn of_intermediation_call(start: u64, c: &IntermediationCall) -> u64
     ensures { λ r. ⌜ r ≡ mix-all start (now (c .entry) .minute ∷ now (c .entry) .participant ∷ now (c .entry) .id ∷ []) ⌝ }
 {
-    mix(mix(mix(start, c.minute as u64), c.participant as u64), c.id as u64)
+    mix(
+        mix(mix(start, c.minute as u64), c.participant as u64),
+        c.id as u64,
+    )
 }
 
 fn digest_request(request: &Request) -> u64
@@ -124,6 +148,9 @@ pub extern "C" fn probe_read(line: &[u8]) -> u64
 {
     match read_request(line) {
         Ok(request) => digest_request(&request),
-        Err(refusal) => mix(mix(10, refusal.ground.number() as u64), refusal.place as u64),
+        Err(refusal) => mix(
+            mix(10, refusal.ground.number() as u64),
+            refusal.place as u64,
+        ),
     }
 }
