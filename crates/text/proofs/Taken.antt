@@ -35,3 +35,11 @@ module _ {A : Type 0} (read : List ℕ → Option A) (k b : ℕ) (rest text : Li
 
 pub end-more : (k b : ℕ) (rest text : List ℕ) → rest ≡ b ∷ text → b ≡ 44 → Err (refusal FieldCount k) ≡ end k (left rest)
 end-more k b rest text is comma = rw (opens {A = ℕ} (λ _. None) k b rest text is comma)
+
+-- the first field of a line
+module _ {A : Type 0} (read : List ℕ → Option A) (k : ℕ) (line : List ℕ) where
+  pub first-none : read (front line) ≡ None → field read k (fields line) ≡ Err (refusal BadField k)
+  first-none e = rw (fields-is line, e)
+
+  pub first-some : (v : A) (more : List ℕ) → read (front line) ≡ Some v → more ≡ after line → field read k (fields line) ≡ Ok (v, left more)
+  first-some v more e m = rw (fields-is line, e, m)

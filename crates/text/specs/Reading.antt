@@ -6,8 +6,10 @@ use Rattle.std.specs.declared.option.Option.the-variants.{Some, None}
 use Rattle.std.specs.declared.result.Result.{Result}
 use Rattle.std.specs.declared.result.Result.the-variants.{Ok, Err}
 use Rattle.fields.specs.declared.answer.Refusal.{Refusal}
+use Rattle.fields.specs.declared.range.Range.{Range}
 use Rattle.fields.specs.declared.ground.Ground.{Ground}
 use Rattle.fields.specs.declared.ground.Ground.the-variants.{BadField, FieldCount}
+use Rattle.text.specs.Fields.{fields, number}
 
 abbrev pub refusal : Ground → ℕ → Refusal
 refusal g k = record { ground = g; place = k }
@@ -31,3 +33,7 @@ field read k (f ∷ fs) = readable (read f) k fs
 abbrev pub end : ℕ → List (List ℕ) → Result (Unit {0}) Refusal
 end k [] = Ok tt
 end k (f ∷ fs) = Err (refusal FieldCount k)
+
+-- the number in a line of one field; each fault has place k
+abbrev pub only : Range → ℕ → List ℕ → Result ℕ Refusal
+only r k line = then (field (number r) k (fields line)) (λ n. then (end k (n .1)) (λ _. Ok (n .0)))

@@ -9,4 +9,5 @@ pub use cuts::split_letter;
 pub use next::read_end;
 pub use next::read_letter;
 pub use next::read_number;
+pub use next::read_only;
 pub use next::read_u32;

@@ -1,9 +1,9 @@
 ghost use mathlib.Core.Path.{_≡_};
 ghost use Prim.Native.Nat.{_≤_};
 ghost use Rattle.std.specs.Vec.{made};
-ghost use Rattle.text.specs.Fields.{narrow, number as numberIn, single};
+ghost use Rattle.text.specs.Fields.{fields, narrow, number as numberIn, single};
 ghost use Rattle.text.specs.Cuts.{left, seen};
-ghost use Rattle.text.specs.Reading.{field, end};
+ghost use Rattle.text.specs.Reading.{field, end, only};
 use crate::cuts::split_letter;
 use crate::number::numeral;
 use fields::Ground;
@@ -45,6 +45,30 @@ pub fn read_u32<'a>(rest: &'a [u8], place: usize, range: Range) -> Result<(u32, 
     };
     let (value, rest) = read_number(rest, place, narrow)?;
     Ok((value as u32, rest))
+}
+
+// The number in the first field of a line; a fault has the place that is given.
+fn read_first<'a>(line: &'a [u8], place: usize, range: Range) -> Result<(u64, &'a [u8]), Refusal>
+    ensures reads { λ r. ⌜ field (numberIn range) place (fields (now (line .entry))) ≡ seen r ⌝ }
+    ensures small { λ r. ⌜ made r (λ p. p .0 ≤ range .most) ⌝ }
+{
+    let Some((value, rest)) = numeral(line, range) else {
+        return Err(Refusal {
+            ground: Ground::BadField,
+            place,
+        });
+    };
+    Ok((value, rest))
+}
+
+// The number in a line of one field; each fault has the place that is given.
+pub fn read_only(line: &[u8], place: usize, range: Range) -> Result<u64, Refusal>
+    ensures reads { λ r. ⌜ r ≡ only range place (now (line .entry)) ⌝ }
+    ensures small { λ r. ⌜ made r (λ n. n ≤ range .most) ⌝ }
+{
+    let (value, rest) = read_first(line, place, range)?;
+    read_end(rest, place)?;
+    Ok(value)
 }
 
 // The one letter in the next field.

@@ -2,7 +2,7 @@ use mathlib.Core.Path.{_≡_, _∙_, sym, ap}
 use Prim.Native.Nat.{_<_, _≤_}
 use native.Mathlib.Omega.{arith}
 use lib.ListN.{length, getD}
-use Rattle.text.specs.Fields.{within}
+use Rattle.text.specs.Fields.{behind, within}
 use Rattle.text.specs.Cuts.{front}
 use Rattle.text.proofs.Scan.{cut-length, front-first, numeral-none, numeral-zero, numeral-is, up-to-some, no-more-within, is-within, is-below}
 use Rattle.text.proofs.number.numeral.Needs as need
@@ -23,7 +23,7 @@ returns-then-text-eq48 c =
 pub returns : need.returns
 returns c =
     let e = c .in-Continue-value .ensures tt in
-    let s = up-to-some (c .args .range .most) _ _ (e .0) in
+    let s = up-to-some (c .args .range .most) (c .in-Continue-value .value) (behind 0 (front (c .args .text .now))) (e .0) in
     let cut = cut-length (c .args .text .now) in
     let same = ap length (e .1) in
     let l : 0 < length (front (c .args .text .now)) = omega arith in
