@@ -7,7 +7,7 @@ use native.Mathlib.Omega.{arith}
 use lib.Dec.{eqb, ltb}
 use lib.ListN.{length, take, drop, getD}
 use Rattle.std.proofs.shelf.Lists.{drop-more, drop-all}
-use Rattle.std.proofs.shelf.Tests.{eqb-true, eq-eqb, ne-eqb, lt-ltb, le-ltb, cond-both}
+use Rattle.std.proofs.shelf.Tests.{eqb-true, eq-eqb, ne-eqb, lt-ltb, le-ltb, ltb-true}
 use Rattle.std.specs.declared.option.Option.{Option}
 use Rattle.std.specs.declared.option.Option.the-variants.{Some, None}
 use Rattle.keyed.specs.Fronts.{rising-front}
@@ -124,3 +124,35 @@ module _ {R : Type 0} (key : R → ℕ) (good : R → Bool) where
   -- so it is enough to know how many they are
   pub front-rows : (n : ℕ) (xs : List R) → n ≡ length (rising-front key good 0 xs) → take n xs ≡ rising-front key good 0 xs
   front-rows n xs e = ap (λ m. take m xs) e ∙ take-front 0 xs
+
+  front-again : (k : ℕ) (xs : List R) → rising-front key good k (rising-front key good k xs) ≡ rising-front key good k xs
+  front-again k [] = refl
+  front-again k (x ∷ xs) = go (front-again (key x) xs) (ltb k (key x) && good x) refl
+    where
+      go : rising-front key good (key x) (rising-front key good (key x) xs) ≡ rising-front key good (key x) xs → (b : Bool) → (ltb k (key x) && good x) ≡ b → rising-front key good k (cond b (x ∷ rising-front key good (key x) xs) []) ≡ cond b (x ∷ rising-front key good (key x) xs) []
+      go ih true e = ap (λ b. cond b (x ∷ rising-front key good (key x) (rising-front key good (key x) xs)) []) e ∙ ap (λ ys. x ∷ ys) ih
+      go ih false e = refl
+
+  -- nothing more is taken from a sound front
+  pub front-sound : (n : ℕ) (xs : List R) → n ≡ length (rising-front key good 0 xs) → rising-front key good 0 (take n xs) ≡ take n xs
+  front-sound n xs e = let r = front-rows n xs e in let s = front-again 0 xs in ap (rising-front key good 0) r ∙ s ∙ sym r
+
+  -- what is sound above k is sound above less
+  pub sound-above-less : (j k : ℕ) (xs : List R) → j ≤ k → rising-front key good k xs ≡ xs → rising-front key good j xs ≡ xs
+  sound-above-less j k [] h e = refl
+  sound-above-less j k (x ∷ xs) h e = go (ltb k (key x)) refl (good x) refl e
+    where
+      go : (b : Bool) → ltb k (key x) ≡ b → (c : Bool) → good x ≡ c → cond (b && c) (x ∷ rising-front key good (key x) xs) [] ≡ (x ∷ xs) → rising-front key good j (x ∷ xs) ≡ (x ∷ xs)
+      go true up true q e =
+          ap (λ b. cond (b && good x) (x ∷ rising-front key good (key x) xs) []) (lt-ltb j (key x) (omega (arith, ltb-true k (key x) up)))
+          ∙ ap (λ b. cond b (x ∷ rising-front key good (key x) xs) []) q ∙ e
+      go true up false q e = absurd (omega (arith, ap length e))
+      go false up c q e = absurd (omega (arith, ap length e))
+
+  -- and so is what stands behind its first row
+  pub sound-rest : (x : R) (xs : List R) → rising-front key good 0 (x ∷ xs) ≡ (x ∷ xs) → rising-front key good 0 xs ≡ xs
+  sound-rest x xs e = go (ltb 0 (key x) && good x) e
+    where
+      go : (b : Bool) → cond b (x ∷ rising-front key good (key x) xs) [] ≡ (x ∷ xs) → rising-front key good 0 xs ≡ xs
+      go true e = let same : rising-front key good (key x) xs ≡ xs = cc in sound-above-less 0 (key x) xs (omega arith) same
+      go false e = absurd (omega (arith, ap length e))

@@ -6,7 +6,7 @@ use lib.ListN.{length, drop}
 use native.Mathlib.Omega.{arith}
 use Rattle.std.proofs.shelf.Tests.{lt-ltb, le-ltb}
 use Rattle.keyed.specs.Fronts.{rising-front}
-use Rattle.keyed.proofs.Steps.{front-stop, front-more, front-end, front-rows}
+use Rattle.keyed.proofs.Steps.{front-stop, front-more, front-end, front-rows, front-sound}
 use Rattle.keyed.proofs.scan.sound_rows.Needs as need
 use Rattle.keyed.proofs.scan.sound_rows.Needs.{then-number-last·by·then-number-last, then-number-last·by·else-number-last·then-not-is-good}
 
@@ -23,7 +23,7 @@ returns-then-number-last g c =
     ] in
     let none = ap length (front-stop key good (c .loop-i .last) xs (c .loop-i .i) x (c .loop-i-test .taken) (c .index-rows-i .is) stop) in
     let value : c .loop-i .i ≡ length (rising-front key good 0 xs) = omega (arith, none, c .loop-i .inv) in
-    record { value = value; rows = front-rows key good (c .loop-i .i) xs value; within = omega arith }
+    record { value = value; rows = front-rows key good (c .loop-i .i) xs value; sound = front-sound key good (c .loop-i .i) xs value; within = omega arith }
 
 pub loop-i-again : need.loop-i-again
 loop-i-again g c =
@@ -41,4 +41,4 @@ returns g c =
     let xs = c .args .rows .now in
     let none = ap length (front-end key good (c .loop-i .last) xs (c .loop-i .i) (c .loop-i-test .left)) in
     let value : length xs ≡ length (rising-front key good 0 xs) = omega (arith, none, c .loop-i .inv) in
-    record { value = value; rows = front-rows key good (length xs) xs value; within = omega arith }
+    record { value = value; rows = front-rows key good (length xs) xs value; sound = front-sound key good (length xs) xs value; within = omega arith }
