@@ -77,11 +77,15 @@ module _ {R : Type 0} (xs ys : List R) (n at : ℕ) (row : R) (l : at ≤ n) (h 
   pub enter-rest : drop (n + 1) ys ≡ drop (n + 1) xs
   enter-rest = ap (drop (n + 1)) e ∙ drop-at (put-in at row (take n xs)) (drop (n + 1) xs) (n + 1) put-len
 
+  pub enter-rows : (key : R → ℕ) → at ≡ below key (key row) (take n xs) → take (n + 1) ys ≡ entered key row (take n xs)
+  enter-rows key at-is =
+      ap (take (n + 1)) e ∙ take-at (put-in at row (take n xs)) (drop (n + 1) xs) (n + 1) put-len
+      ∙ ap (λ i. put-in i row (take n xs)) at-is ∙ put-below key row (take n xs)
+
   pub enter-table : (key : R → ℕ) → at ≡ below key (key row) (take n xs) → table (n + 1) ys ≡ entered-in key row (table n xs)
   enter-table key at-is =
       let same : length ys ≡ length xs = ap length e ∙ length-append (put-in at row (take n xs)) (drop (n + 1) xs) ∙ simp length-drop (omega (arith, put-len)) in
-      let put : take (n + 1) ys ≡ put-in at row (take n xs) = ap (take (n + 1)) e ∙ take-at (put-in at row (take n xs)) (drop (n + 1) xs) (n + 1) put-len in
-      let rows : take (n + 1) ys ≡ entered key row (take n xs) = put ∙ ap (λ i. put-in i row (take n xs)) at-is ∙ put-below key row (take n xs) in
+      let rows = enter-rows key at-is in
       cc
 
 -- after one is taken out
@@ -94,8 +98,11 @@ module _ {R : Type 0} (xs ys : List R) (n i : ℕ) (h : i < n) (k : n ≤ length
       let one : length (without i (take n xs) ++ take 1 (drop i xs)) ≡ n = simp (length-append, length-drop, length-take) (omega arith) in
       ap (drop n) (e ∙ sym (append-assoc (without i (take n xs)) (take 1 (drop i xs)) (drop n xs))) ∙ drop-at (without i (take n xs) ++ take 1 (drop i xs)) (drop n xs) n one
 
+  pub remove-rows : take (n - 1) ys ≡ without i (take n xs)
+  remove-rows = ap (take (n - 1)) e ∙ take-at (without i (take n xs)) (take 1 (drop i xs) ++ drop n xs) (n - 1) short
+
   pub remove-table : (key : R → ℕ) (m : ℕ) → At key m (take n xs) i → table (n - 1) ys ≡ removed-in key m (table n xs)
   remove-table key m found =
       let l : length ys ≡ length xs = ap length e ∙ simp (length-append, length-drop, length-take) (omega arith) in
-      let rows : take (n - 1) ys ≡ without i (take n xs) = ap (take (n - 1)) e ∙ take-at (without i (take n xs)) (take 1 (drop i xs) ++ drop n xs) (n - 1) short in
+      let rows = remove-rows in
       cc

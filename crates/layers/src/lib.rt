@@ -1,0 +1,11 @@
+// Layers over any register: accounts on hold, and kinds that are halted.
+mod codes;
+pub mod halt;
+pub mod hold;
+pub mod stacks;
+
+pub use halt::Halt;
+pub use halt::HaltRegister;
+pub use hold::Hold;
+pub use hold::HoldRegister;
+pub use stacks::usable;
