@@ -61,6 +61,8 @@ pub impl<'a> Register for AccountTable<'a> as AccountTableRegister {
 fn row_of(rows: &[AccountRow], code: u32) -> Option<&AccountRow>
     ensures { λ r. ⌜ BySome r (findRow code-of code (map listed (now (rows .entry))) ≡ None) (λ a. findRow code-of code (map listed (now (rows .entry))) ≡ Some (listed (now a))) ⌝ }
 {
-    let at = find(rows, code as u64)?;
+    let Some(at) = find(rows, code as u64) else {
+        return None;
+    };
     Some(&rows[at])
 }

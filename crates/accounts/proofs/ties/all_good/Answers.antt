@@ -5,7 +5,7 @@ use Rattle.std.proofs.shelf.Ways.{tells}
 use Rattle.keyed.specs.Lists.{all, any}
 use Rattle.register.specs.Meaning.{same-party}
 use Rattle.accounts.specs.Rows.{good-party}
-use Rattle.accounts.proofs.Rows.{no-tie}
+use Rattle.accounts.proofs.Listed.{no-tie}
 use Rattle.accounts.proofs.ties.all_good.Needs as need
 
 pub returns-then-not-in-range : need.returns-then-not-in-range
