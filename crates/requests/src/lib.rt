@@ -1,6 +1,8 @@
-// The nine requests.
+// The nine requests, and the tests of their fields.
+pub mod check;
 pub mod request;
 
+pub use check::check_fields;
 pub use request::Cancellation;
 pub use request::Closing;
 pub use request::Inclusion;
