@@ -34,10 +34,7 @@ pub fn read_kind<'a>(rest: &'a [u8], place: usize) -> Result<(Kind, &'a [u8]), R
 {
     let (letter, rest) = read_letter(rest, place)?;
     let Some(kind) = kind_of(letter) else {
-        return Err(Refusal {
-            ground: Ground::BadField,
-            place,
-        });
+        return Err(Refusal { ground: Ground::BadField, place });
     };
     Ok((kind, rest))
 }
@@ -47,10 +44,7 @@ pub fn read_side<'a>(rest: &'a [u8], place: usize) -> Result<(Side, &'a [u8]), R
 {
     let (letter, rest) = read_letter(rest, place)?;
     let Some(side) = side_of(letter) else {
-        return Err(Refusal {
-            ground: Ground::BadField,
-            place,
-        });
+        return Err(Refusal { ground: Ground::BadField, place });
     };
     Ok((side, rest))
 }

@@ -34,16 +34,10 @@ pub fn read_opening(line: &[u8]) -> Result<Opening, Refusal>
     ensures { λ r. ⌜ r ≡ openingOf (now (line .entry)) ⌝ }
 {
     let Some((letter, rest)) = split_letter(line) else {
-        return Err(Refusal {
-            ground: Ground::UnknownLetter,
-            place: 1,
-        });
+        return Err(Refusal { ground: Ground::UnknownLetter, place: 1 });
     };
     if letter != b'N' {
-        return Err(Refusal {
-            ground: Ground::UnknownLetter,
-            place: 1,
-        });
+        return Err(Refusal { ground: Ground::UnknownLetter, place: 1 });
     }
     read_fields(rest)
 }

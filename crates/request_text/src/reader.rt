@@ -40,13 +40,7 @@ fn read_party<'a>(rest: &'a [u8], place: usize) -> Result<(Party, &'a [u8]), Ref
 {
     let (participant, rest) = read_u32(rest, place, PARTICIPANT)?;
     let (offeror, rest) = read_u32(rest, place + 1, PARTICIPANT)?;
-    Ok((
-        Party {
-            participant,
-            offeror,
-        },
-        rest,
-    ))
+    Ok((Party { participant, offeror }, rest))
 }
 
 // C,minute,trade,kind,asset,quantity,settlement,buyer,its offeror,seller,its offeror
@@ -62,15 +56,7 @@ fn read_capture(rest: &[u8]) -> Result<Request, Refusal>
     let (buyer, rest) = read_party(rest, 8)?;
     let (seller, rest) = read_party(rest, 10)?;
     read_end(rest, 12)?;
-    let terms = Terms {
-        number,
-        kind,
-        asset,
-        quantity,
-        settlement,
-        buyer,
-        seller,
-    };
+    let terms = Terms { number, kind, asset, quantity, settlement, buyer, seller };
     Ok(Request::Capture(NewTrade { minute, terms }))
 }
 
@@ -93,14 +79,7 @@ fn read_entry<'a>(rest: &'a [u8], index: usize) -> Result<(Entry, &'a [u8]), Ref
     let (account, rest) = read_u32(rest, place, ACCOUNT)?;
     let (quantity, rest) = read_u32(rest, place + 1, QUANTITY)?;
     let (client, rest) = read_u32(rest, place + 2, NUMBER_OR_NONE)?;
-    Ok((
-        Entry {
-            account,
-            quantity,
-            client,
-        },
-        rest,
-    ))
+    Ok((Entry { account, quantity, client }, rest))
 }
 
 // The table that `count` entries make.
@@ -108,11 +87,7 @@ fn read_entries<'a>(text: &'a [u8], count: usize) -> Result<([Entry; 16], &'a [u
     requires { ⌜ count ≤ 16 ⌝ }
     ensures { λ r. ⌜ table count (left (now (text .entry))) ≡ seen r ⌝ }
 {
-    let mut entries = [Entry {
-        account: 0,
-        quantity: 0,
-        client: 0,
-    }; 16];
+    let mut entries = [Entry { account: 0, quantity: 0, client: 0 }; 16];
     let mut rest = text;
     for i in 0..count {
         let (entry, tail) = read_entry(rest, i)?;
@@ -135,15 +110,7 @@ fn read_include(rest: &[u8]) -> Result<Request, Refusal>
     let count = count as usize;
     let (entries, rest) = read_entries(rest, count)?;
     read_end(rest, 8 + 3 * count)?;
-    Ok(Request::Include(Inclusion {
-        minute,
-        participant,
-        trade,
-        side,
-        now: flag == 1,
-        count,
-        entries,
-    }))
+    Ok(Request::Include(Inclusion { minute, participant, trade, side, now: flag == 1, count, entries }))
 }
 
 // minute,participant,trade,side
@@ -155,12 +122,7 @@ fn read_side_call(rest: &[u8]) -> Result<SideCall, Refusal>
     let (trade, rest) = read_u32(rest, 4, NUMBER)?;
     let (side, rest) = read_side(rest, 5)?;
     read_end(rest, 6)?;
-    Ok(SideCall {
-        minute,
-        participant,
-        trade,
-        side,
-    })
+    Ok(SideCall { minute, participant, trade, side })
 }
 
 // J,minute,participant,id,account,bought,sold,now
@@ -176,18 +138,8 @@ fn read_intermediate(rest: &[u8]) -> Result<Request, Refusal>
     let (sold, rest) = read_u32(rest, 7, sold_range)?;
     let (flag, rest) = read_u32(rest, 8, FLAG)?;
     read_end(rest, 9)?;
-    let intermediation = Intermediation {
-        id,
-        participant,
-        account,
-        bought,
-        sold,
-    };
-    Ok(Request::Intermediate(NewIntermediation {
-        minute,
-        intermediation,
-        now: flag == 1,
-    }))
+    let intermediation = Intermediation { id, participant, account, bought, sold };
+    Ok(Request::Intermediate(NewIntermediation { minute, intermediation, now: flag == 1 }))
 }
 
 // minute,participant,id
@@ -198,11 +150,7 @@ fn read_intermediation_call(rest: &[u8]) -> Result<IntermediationCall, Refusal>
     let (participant, rest) = read_u32(rest, 3, PARTICIPANT)?;
     let (id, rest) = read_u32(rest, 4, NUMBER)?;
     read_end(rest, 5)?;
-    Ok(IntermediationCall {
-        minute,
-        participant,
-        id,
-    })
+    Ok(IntermediationCall { minute, participant, id })
 }
 
 // Z,minute,day
@@ -229,10 +177,7 @@ fn read_fields(letter: u8, rest: &[u8]) -> Result<Request, Refusal>
         b'G' => Ok(Request::ConfirmIntermediation(read_intermediation_call(rest)?)),
         b'E' => Ok(Request::ExcludeIntermediation(read_intermediation_call(rest)?)),
         b'Z' => read_close(rest),
-        _ => Err(Refusal {
-            ground: Ground::UnknownLetter,
-            place: 1,
-        }),
+        _ => Err(Refusal { ground: Ground::UnknownLetter, place: 1 }),
     }
 }
 
@@ -241,10 +186,7 @@ pub fn read_request(line: &[u8]) -> Result<Request, Refusal>
     ensures { λ r. ⌜ r ≡ requestOf (now (line .entry)) ⌝ }
 {
     let Some((letter, rest)) = split_letter(line) else {
-        return Err(Refusal {
-            ground: Ground::UnknownLetter,
-            place: 1,
-        });
+        return Err(Refusal { ground: Ground::UnknownLetter, place: 1 });
     };
     read_fields(letter, rest)
 }

@@ -23,9 +23,8 @@ passed-on [] us h = refl
 passed-on (t ∷ ts) us h =
     let P : Bool → Type 0 = λ b. cond b (tested ts) (bad t) ≡ Ok tt → cond b (tested (ts ++ us)) (bad t) ≡ tested us in
     (elim (in-range (t .range) (t .value)) as P [
-      | true ↦ λ e. passed-on ts us e
-      | false ↦ λ e. let z : _≡_ {A = ℕ} 0 1 = cc in absurd (omega arith)
-    ]) h
+      true ↦ λ e. passed-on ts us e
+    | false ↦ λ e. let z : _≡_ {A = ℕ} 0 1 = cc in absurd (omega arith) ]) h
 
 -- where one of the first fails, it is the refusal
 pub refused-first : (ts us : List Test) (f : Refusal) → tested ts ≡ Err f → tested (ts ++ us) ≡ Err f

@@ -28,10 +28,7 @@ fn test(place: usize, range: Range, value: u64) -> Result<(), Refusal>
     ensures { λ r. ⌜ r ≡ tested (at place range value ∷ []) ⌝ }
 {
     if !range.holds(value) {
-        return Err(Refusal {
-            ground: Ground::BadField,
-            place,
-        });
+        return Err(Refusal { ground: Ground::BadField, place });
     }
     Ok(())
 }
@@ -96,11 +93,7 @@ fn check_new_intermediation(c: &NewIntermediation) -> Result<(), Refusal>
     ensures { λ r. ⌜ r ≡ fields-pass (Intermediate (now (c .entry))) ⌝ }
 {
     let i = &c.intermediation;
-    let sold_range = if i.bought == 0 {
-        NUMBER
-    } else {
-        NUMBER_OR_NONE
-    };
+    let sold_range = if i.bought == 0 { NUMBER } else { NUMBER_OR_NONE };
     test(2, MINUTE, c.minute as u64)?;
     test(3, PARTICIPANT, i.participant as u64)?;
     test(4, NUMBER, i.id as u64)?;

@@ -45,7 +45,6 @@ module _ (xs line rest : List ℕ) (some : 0 < length xs) (ahead : line ≡ befo
   one-line more =
       let e : take (length rest - 1) (drop 1 rest) ≡ drop 1 rest = take-rest rest 1 in
       let n : length (drop 1 rest) ≡ length rest - 1 = length-drop 1 rest in
-      let m : length rest ≤ length xs = subst (λ r. length r ≤ length xs) (sym beyond) (onward-length 10 xs) in (
-        line-is xs some ∙ ap (λ r. before 10 xs ∷ lines (drop 1 r)) (sym beyond) ∙ ap (λ l. l ∷ lines (drop 1 rest)) (sym ahead) ∙ ap (λ r. line ∷ lines r) (sym e),
-        omega (arith, ap length e),
-      )
+      let m : length rest ≤ length xs = subst (λ r. length r ≤ length xs) (sym beyond) (onward-length 10 xs) in
+      (line-is xs some ∙ ap (λ r. before 10 xs ∷ lines (drop 1 r)) (sym beyond) ∙ ap (λ l. l ∷ lines (drop 1 rest)) (sym ahead) ∙ ap (λ r. line ∷ lines r) (sym e),
+       omega (arith, ap length e))

@@ -88,9 +88,8 @@ up-to-some most v None e = let z : _≡_ {A = ℕ} 0 1 = cc in absurd (omega ari
 up-to-some most v (Some w) e =
     let P : Bool → Type 0 = λ t. leb w most ≡ t → cond t (Some w) None ≡ Some v → (Some w ≡ Some v) × (v ≤ most) in
     (elim (leb w most) as P [
-      | true ↦ λ t s. (s, let q : w ≡ v = cc in omega (arith, leb-true w most t))
-      | false ↦ λ t s. let z : _≡_ {A = ℕ} 0 1 = cc in absurd (omega arith)
-    ]) refl e
+      true ↦ λ t s. (s, let q : w ≡ v = cc in omega (arith, leb-true w most t))
+    | false ↦ λ t s. let z : _≡_ {A = ℕ} 0 1 = cc in absurd (omega arith) ]) refl e
 
 -- what is past the greatest number is in no range up to it
 pub no-more-within : (r : Range) (o : Option ℕ) → up-to (r .most) o ≡ None → within r o ≡ None
@@ -98,9 +97,8 @@ no-more-within r None e = refl
 no-more-within r (Some w) e =
     let P : Bool → Type 0 = λ t. cond t (Some w) None ≡ None → cond (leb (r .least) w && t) (Some w) None ≡ None in
     (elim (leb w (r .most)) as P [
-      | true ↦ λ s. let z : _≡_ {A = ℕ} 0 1 = cc in absurd (omega arith)
-      | false ↦ λ s. let f : (leb (r .least) w && false) ≡ false = and-right (leb (r .least) w) false refl in rw f
-    ]) e
+      true ↦ λ s. let z : _≡_ {A = ℕ} 0 1 = cc in absurd (omega arith)
+    | false ↦ λ s. let f : (leb (r .least) w && false) ≡ false = and-right (leb (r .least) w) false refl in rw f ]) e
 
 pub is-within : (r : Range) (v : ℕ) → r .least ≤ v → v ≤ r .most → within r (Some v) ≡ Some v
 is-within r v h k = let e : in-range r v ≡ true = and-from _ _ (le-leb (r .least) v h) (le-leb v (r .most) k) in rw e

@@ -11,25 +11,15 @@ use fields::Range;
 use fields::Refusal;
 
 // The number in the next field, which is the field at `place`, and where the reader then stands.
-pub fn read_number<'a>(
-    rest: &'a [u8],
-    place: usize,
-    range: Range,
-) -> Result<(u64, &'a [u8]), Refusal>
+pub fn read_number<'a>(rest: &'a [u8], place: usize, range: Range) -> Result<(u64, &'a [u8]), Refusal>
     ensures reads { λ r. ⌜ field (numberIn range) place (left (now (rest .entry))) ≡ seen r ⌝ }
     ensures small { λ r. ⌜ made r (λ p. p .0 ≤ range .most) ⌝ }
 {
     let [b',', text @ ..] = rest else {
-        return Err(Refusal {
-            ground: Ground::FieldCount,
-            place,
-        });
+        return Err(Refusal { ground: Ground::FieldCount, place });
     };
     let Some((value, rest)) = numeral(text, range) else {
-        return Err(Refusal {
-            ground: Ground::BadField,
-            place,
-        });
+        return Err(Refusal { ground: Ground::BadField, place });
     };
     Ok((value, rest))
 }
@@ -39,10 +29,7 @@ pub fn read_u32<'a>(rest: &'a [u8], place: usize, range: Range) -> Result<(u32, 
     ensures reads { λ r. ⌜ field (numberIn (narrow range)) place (left (now (rest .entry))) ≡ seen r ⌝ }
     ensures small { λ r. ⌜ made r (λ p. p .0 ≤ range .most) ⌝ }
 {
-    let narrow = Range {
-        least: range.least,
-        most: range.most.min(u32::MAX as u64),
-    };
+    let narrow = Range { least: range.least, most: range.most.min(u32::MAX as u64) };
     let (value, rest) = read_number(rest, place, narrow)?;
     Ok((value as u32, rest))
 }
@@ -52,16 +39,10 @@ pub fn read_letter<'a>(rest: &'a [u8], place: usize) -> Result<(u8, &'a [u8]), R
     ensures { λ r. ⌜ field single place (left (now (rest .entry))) ≡ seen r ⌝ }
 {
     let [b',', text @ ..] = rest else {
-        return Err(Refusal {
-            ground: Ground::FieldCount,
-            place,
-        });
+        return Err(Refusal { ground: Ground::FieldCount, place });
     };
     let Some((letter, rest)) = split_letter(text) else {
-        return Err(Refusal {
-            ground: Ground::BadField,
-            place,
-        });
+        return Err(Refusal { ground: Ground::BadField, place });
     };
     Ok((letter, rest))
 }
@@ -71,10 +52,7 @@ pub fn read_end(rest: &[u8], place: usize) -> Result<(), Refusal>
     ensures { λ r. ⌜ r ≡ end place (left (now (rest .entry))) ⌝ }
 {
     if let [b',', ..] = rest {
-        return Err(Refusal {
-            ground: Ground::FieldCount,
-            place,
-        });
+        return Err(Refusal { ground: Ground::FieldCount, place });
     }
     Ok(())
 }

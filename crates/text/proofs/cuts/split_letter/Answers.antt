@@ -16,6 +16,6 @@ pub returns : need.returns
 returns c =
     let is = first-rest (c .args .text .now) 0 (search needs) in
     elim (c .if-rest-lt1 .came) [
-      | then-rest-lt1 w ↦ single-end _ _ _ is (c .if-letter-eq44 .left) (search needs)
-      | else-rest-lt1·in-44· w ↦ single-comma _ _ _ is (c .if-letter-eq44 .left) (search needs) (search needs)
+      then-rest-lt1 w ↦ single-end _ _ _ is (c .if-letter-eq44 .left) (search needs)
+    | else-rest-lt1·in-44· w ↦ single-comma _ _ _ is (c .if-letter-eq44 .left) (search needs) (search needs)
     ]

@@ -25,6 +25,6 @@ loop-rest-again c =
 pub returns : need.returns
 returns c =
     elim (c .if-rest-lt1 .came) [
-      | in-rest w ↦ let e = ended (c .loop-rest .value) (c .args .most) (c .loop-rest .rest .now) (omega arith) (search needs) in (ap (up-to (c .args .most)) (c .loop-rest .inv .1) ∙ e .0, sym (c .loop-rest .inv .2 ∙ e .1))
-      | in-len1-up·then-b-eq44 w ↦ let e = at-comma (c .loop-rest .value) (c .args .most) (c .loop-rest .rest .now) (omega arith) (search needs) (w .if-b-eq44 .taken) in (ap (up-to (c .args .most)) (c .loop-rest .inv .1) ∙ e .0, sym (c .loop-rest .inv .2 ∙ e .1))
+      in-rest w ↦ let e = ended (c .loop-rest .value) (c .args .most) (c .loop-rest .rest .now) (omega arith) (search needs) in (ap (up-to (c .args .most)) (c .loop-rest .inv .1) ∙ e .0, sym (c .loop-rest .inv .2 ∙ e .1))
+    | in-len1-up·then-b-eq44 w ↦ let e = at-comma (c .loop-rest .value) (c .args .most) (c .loop-rest .rest .now) (omega arith) (search needs) (w .if-b-eq44 .taken) in (ap (up-to (c .args .most)) (c .loop-rest .inv .1) ∙ e .0, sym (c .loop-rest .inv .2 ∙ e .1))
     ]

@@ -28,8 +28,7 @@ returns c =
     let same = ap length (e .1) in
     let l : 0 < length (front (c .args .text .now)) = omega arith in
     let no : 1 < length (front (c .args .text .now)) → getD (front (c .args .text .now)) 0 0 ≡ 48 → ⊥ =
-    λ h z. elim (c .else-len-gt1 .came) [
-      | else-len-gt1·by·then-len-gt1·else-text-eq48 w ↦ w .if-text-eq48 .left (sym (front-first (c .args .text .now) l) ∙ z)
-      | else-len-gt1·by·else-len-gt1 w ↦ omega (arith, w .if-len-gt1 .left)
-    ] in
+        λ h z. elim (c .else-len-gt1 .came) [
+          else-len-gt1·by·then-len-gt1·else-text-eq48 w ↦ w .if-text-eq48 .left (sym (front-first (c .args .text .now) l) ∙ z)
+        | else-len-gt1·by·else-len-gt1 w ↦ omega (arith, w .if-len-gt1 .left) ] in
     (ap (within (c .args .range)) (numeral-is (front (c .args .text .now)) l no ∙ s .0) ∙ is-within (c .args .range) _ (omega arith) (s .1), e .1, s .1)
