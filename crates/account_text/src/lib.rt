@@ -10,7 +10,6 @@ ghost use Rattle.std.specs.Options.{Cases as BySome};
 ghost use Rattle.std.specs.declared.option.Option.the-variants.{Some, None};
 use account_line::read_account;
 use accounts::AccountRow;
-use accounts::ties::has_tie;
 use fields::Account;
 use fields::Party;
 use register::Register;
@@ -42,7 +41,7 @@ pub impl<'a> Register for AccountText<'a> as AccountTextRegister {
 
     fn tied(&self, code: u32, party: Party) -> bool {
         match row_of(self.bytes, code) {
-            Some(row) => has_tie(row.ties_in_use(), party),
+            Some(row) => row.is_tied(party),
             None => false,
         }
     }

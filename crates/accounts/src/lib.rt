@@ -1,7 +1,7 @@
 // A table of account rows as a register.
 pub mod row;
 pub mod table;
-pub mod ties;
+mod ties;
 
 pub use row::AccountRow;
 pub use row::AccountRowChecked;

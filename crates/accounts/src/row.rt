@@ -2,8 +2,11 @@
 ghost use mathlib.Core.Path.{_≡_};
 ghost use mathlib.Core.Bool.{_&&_};
 ghost use lib.ListN.{take};
+ghost use Rattle.keyed.specs.Lists.{any};
+ghost use Rattle.register.specs.Meaning.{same-party};
 ghost use Rattle.accounts.specs.Rows.{row-code, in-use, good-row};
 use crate::ties::all_good;
+use crate::ties::has_tie;
 use fields::Account;
 use fields::Party;
 use fields::Range;
@@ -24,8 +27,15 @@ pub struct AccountRow {
 }
 
 impl AccountRow {
+    // Whether the account is tied to a party.
+    pub fn is_tied(&self, party: Party) -> bool
+        ensures { λ r. ⌜ r ≡ any (same-party party) (in-use (now (self .entry))) ⌝ }
+    {
+        has_tie(self.ties_in_use(), party)
+    }
+
     // The ties in use.
-    pub fn ties_in_use(&self) -> &[Party]
+    fn ties_in_use(&self) -> &[Party]
         ensures { λ r. ⌜ now r ≡ in-use (now (self .entry)) ⌝ }
     {
         if self.tie_count < 4 {

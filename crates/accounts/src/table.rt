@@ -12,7 +12,6 @@ ghost use Rattle.std.specs.declared.option.Option.the-variants.{Some, None};
 use crate::row::AccountRow;
 use crate::row::AccountRowChecked;
 use crate::row::AccountRowKeyed;
-use crate::ties::has_tie;
 use fields::Account;
 use fields::Party;
 use fields::Refusal;
@@ -51,7 +50,7 @@ pub impl<'a> Register for AccountTable<'a> as AccountTableRegister {
 
     fn tied(&self, code: u32, party: Party) -> bool {
         match row_of(self.rows, code) {
-            Some(row) => has_tie(row.ties_in_use(), party),
+            Some(row) => row.is_tied(party),
             None => false,
         }
     }
