@@ -26,7 +26,7 @@ fn read_tie<'a>(rest: &'a [u8], index: usize) -> Result<(Party, &'a [u8]), Refus
 }
 
 // The table that `count` ties make.
-pub fn read_ties<'a>(text: &'a [u8], count: usize) -> Result<([Party; 4], &'a [u8]), Refusal>
+pub(crate) fn read_ties<'a>(text: &'a [u8], count: usize) -> Result<([Party; 4], &'a [u8]), Refusal>
     requires { ⌜ count ≤ 4 ⌝ }
     ensures { λ r. ⌜ table count (left (now (text .entry))) ≡ seen r ⌝ }
 {

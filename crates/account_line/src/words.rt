@@ -51,7 +51,10 @@ fn class(field: &[u8]) -> Option<AccountType>
     class_of(*first, *second)
 }
 
-pub fn read_class<'a>(rest: &'a [u8], place: usize) -> Result<(AccountType, &'a [u8]), Refusal>
+pub(crate) fn read_class<'a>(
+    rest: &'a [u8],
+    place: usize,
+) -> Result<(AccountType, &'a [u8]), Refusal>
     ensures { λ r. ⌜ field classIn place (left (now (rest .entry))) ≡ seen r ⌝ }
 {
     let (field, rest) = read_field(rest, place)?;
@@ -74,7 +77,7 @@ fn status_of(letter: u8) -> Option<Status>
     }
 }
 
-pub fn read_status<'a>(rest: &'a [u8], place: usize) -> Result<(Status, &'a [u8]), Refusal>
+pub(crate) fn read_status<'a>(rest: &'a [u8], place: usize) -> Result<(Status, &'a [u8]), Refusal>
     ensures { λ r. ⌜ field statusIn place (left (now (rest .entry))) ≡ seen r ⌝ }
 {
     let (letter, rest) = read_letter(rest, place)?;
@@ -117,7 +120,7 @@ fn markets(field: &[u8]) -> Option<Markets>
     })
 }
 
-pub fn read_markets<'a>(rest: &'a [u8], place: usize) -> Result<(Markets, &'a [u8]), Refusal>
+pub(crate) fn read_markets<'a>(rest: &'a [u8], place: usize) -> Result<(Markets, &'a [u8]), Refusal>
     ensures { λ r. ⌜ field marketsIn place (left (now (rest .entry))) ≡ seen r ⌝ }
 {
     let (field, rest) = read_field(rest, place)?;

@@ -8,7 +8,7 @@ use fields::Party;
 use fields::range::PARTICIPANT;
 
 // Whether a party is among these.
-pub fn has_tie(ties: &[Party], party: Party) -> bool
+pub(crate) fn has_tie(ties: &[Party], party: Party) -> bool
     ensures { λ r. ⌜ r ≡ any (same-party party) (now (ties .entry)) ⌝ }
 {
     for tie in ties {
@@ -26,7 +26,7 @@ fn same(one: Party, other: Party) -> bool
 }
 
 // Whether each participant and each offeror is in range.
-pub fn all_good(ties: &[Party]) -> bool
+pub(crate) fn all_good(ties: &[Party]) -> bool
     ensures { λ r. ⌜ r ≡ all good-party (now (ties .entry)) ⌝ }
 {
     for tie in ties {

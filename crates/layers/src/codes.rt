@@ -13,14 +13,14 @@ use keyed::find;
 use keyed::remove;
 
 // Whether a code stands among these.
-pub fn is_among(codes: &[u32], code: u32) -> bool
+pub(crate) fn is_among(codes: &[u32], code: u32) -> bool
     ensures { λ r. ⌜ r ≡ held code (now (codes .entry)) ⌝ }
 {
     find(codes, code as u64).is_some()
 }
 
 // Enters a code; if they rise and it is not among them, they rise with it.
-pub fn put(codes: &mut [u32], count: usize, code: u32)
+pub(crate) fn put(codes: &mut [u32], count: usize, code: u32)
     requires { ⌜ count < length (now codes) ⌝ }
     ensures codes { λ _. ⌜ take (count + 1) (now (codes .exit)) ≡ entered (λ c. c) code (take count (now (codes .entry))) ⌝ }
     ensures rises { λ _. ⌜ (1 ≤ code → rising (take count (now (codes .entry))) ≡ true → held code (take count (now (codes .entry))) ≡ false → rising (take (count + 1) (now (codes .exit))) ≡ true) ⌝ }
@@ -29,7 +29,7 @@ pub fn put(codes: &mut [u32], count: usize, code: u32)
 }
 
 // Takes a code out, if it is among them, and tells how many are left; those that rise, rise without it.
-pub fn take_out(codes: &mut [u32], count: usize, code: u32) -> usize
+pub(crate) fn take_out(codes: &mut [u32], count: usize, code: u32) -> usize
     requires { ⌜ count ≤ length (now codes) ⌝ }
     ensures codes { λ r. ⌜ (rising (take count (now (codes .entry))) ≡ true → take r (now (codes .exit)) ≡ those (λ c. not (eqb c code)) (take count (now (codes .entry)))) ⌝ }
     ensures rises { λ r. ⌜ (rising (take count (now (codes .entry))) ≡ true → rising (take r (now (codes .exit))) ≡ true) ⌝ }

@@ -32,24 +32,16 @@ fn is_active(status: Status) -> bool
 }
 
 // The same of holds over halts.
-pub fn usable_held_over_halted<R: Register>(
-    register: &Hold<Halt<R>>,
-    code: u32,
-    party: Party,
-) -> bool
-    ensures { λ r. ⌜ r ≡ usable-by (each (hold-account (take (now (register .entry) .count) (now (register .entry) .codes))) (each (halt-account (now (register .entry) .below .halted)) (R·Register .accounts (now (register .entry) .below .below)))) code party ⌝ }
+pub fn usable_held_over_halted<R: Register>(holds: &Hold<Halt<R>>, code: u32, party: Party) -> bool
+    ensures { λ r. ⌜ r ≡ usable-by (each (hold-account (take (now (holds .entry) .count) (now (holds .entry) .codes))) (each (halt-account (now (holds .entry) .below .halted)) (R·Register .accounts (now (holds .entry) .below .below)))) code party ⌝ }
 {
-    usable(register, code, party)
+    usable(holds, code, party)
 }
 
 // And of halts over holds, which show what holds over halts show.
-pub fn usable_halted_over_held<R: Register>(
-    register: &Halt<Hold<R>>,
-    code: u32,
-    party: Party,
-) -> bool
-    ensures value { λ r. ⌜ r ≡ usable-by (each (halt-account (now (register .entry) .halted)) (each (hold-account (take (now (register .entry) .below .count) (now (register .entry) .below .codes))) (R·Register .accounts (now (register .entry) .below .below)))) code party ⌝ }
-    ensures alike { λ r. ⌜ r ≡ usable-by (each (hold-account (take (now (register .entry) .below .count) (now (register .entry) .below .codes))) (each (halt-account (now (register .entry) .halted)) (R·Register .accounts (now (register .entry) .below .below)))) code party ⌝ }
+pub fn usable_halted_over_held<R: Register>(halts: &Halt<Hold<R>>, code: u32, party: Party) -> bool
+    ensures value { λ r. ⌜ r ≡ usable-by (each (halt-account (now (halts .entry) .halted)) (each (hold-account (take (now (halts .entry) .below .count) (now (halts .entry) .below .codes))) (R·Register .accounts (now (halts .entry) .below .below)))) code party ⌝ }
+    ensures alike { λ r. ⌜ r ≡ usable-by (each (hold-account (take (now (halts .entry) .below .count) (now (halts .entry) .below .codes))) (each (halt-account (now (halts .entry) .halted)) (R·Register .accounts (now (halts .entry) .below .below)))) code party ⌝ }
 {
-    usable(register, code, party)
+    usable(halts, code, party)
 }
