@@ -1,12 +1,13 @@
 // Tables of rows in rising key order, over lent slices of which the first `count` rows are in use.
-pub mod number;
+pub mod plain;
 pub mod row;
 pub mod scan;
 pub mod shift;
 
-pub use number::CodeKeyed;
-pub use number::NumberChecked;
-pub use number::NumberKeyed;
+pub use plain::CodeKeyed;
+pub use plain::IntermediationKeyed;
+pub use plain::NumberChecked;
+pub use plain::NumberKeyed;
 pub use row::Checked;
 pub use row::Keyed;
 pub use scan::find;

@@ -1,2 +1,3 @@
 pub mod Each
+mod Examples
 pub mod Held

@@ -1,8 +1,9 @@
-// Bare numbers as rows, each its own key: account codes, and numbers that an issuer may give.
+// Rows of types from below: bare numbers, each its own key (account codes, and numbers that an issuer may give), and intermediations.
 ghost use Prim.Native.Nat.{ℕ};
 ghost use Rattle.fields.specs.Ranges.{in-range, issued};
 use crate::row::Checked;
 use crate::row::Keyed;
+use fields::Intermediation;
 use fields::range::ISSUED;
 
 pub impl Keyed for u32 as CodeKeyed {
@@ -26,5 +27,13 @@ pub impl Checked for u64 as NumberChecked {
 
     fn is_good(&self) -> bool {
         ISSUED.holds(*self)
+    }
+}
+
+pub impl Keyed for Intermediation as IntermediationKeyed {
+    ghost key = { λ x. x .id };
+
+    fn key_number(&self) -> u64 {
+        self.id as u64
     }
 }
