@@ -1,6 +1,11 @@
 ghost use mathlib.Core.Path.{_≡_};
 ghost use Prim.Native.Nat.{_≤_, _+_, _*_};
 ghost use Rattle.std.specs.declared.option.Option.the-variants.{Some};
+ghost use Rattle.std.specs.declared.result.Result.the-variants.{Ok};
+ghost use Rattle.std.specs.Vec.{made, refused};
+ghost use mathlib.Core.Bool.{true};
+ghost use Rattle.fields.specs.Grounds.{may-stand};
+ghost use Rattle.requests.specs.Tests.{fields-pass};
 ghost use Rattle.text.specs.Cuts.{left, seen};
 ghost use Rattle.request_text.specs.Entries.{entry as entryIn, table};
 ghost use Rattle.request_text.specs.Lines.{by-letter, cancel-line, capture-line, close-line, include-line, intermediate-line, intermediation-call-line, party as partyIn, request as requestOf, side-call-line};
@@ -181,9 +186,12 @@ fn read_fields(letter: u8, rest: &[u8]) -> Result<Request, Refusal>
     }
 }
 
-// What a request line asks, or why it is refused.
+// What a request line asks, or why it is refused. What is read passes the tests of a direct call,
+// and a refusal stands at a place of its ground.
 pub fn read_request(line: &[u8]) -> Result<Request, Refusal>
-    ensures { λ r. ⌜ r ≡ requestOf (now (line .entry)) ⌝ }
+    ensures value { λ r. ⌜ r ≡ requestOf (now (line .entry)) ⌝ }
+    ensures passes { λ r. ⌜ made r (λ v. fields-pass v ≡ Ok tt) ⌝ }
+    ensures placed { λ r. ⌜ refused r (λ f. may-stand (f .ground) (f .place) ≡ true) ⌝ }
 {
     let Some((letter, rest)) = split_letter(line) else {
         return Err(Refusal { ground: Ground::UnknownLetter, place: 1 });
