@@ -3,6 +3,7 @@ ghost use mathlib.Core.Path.{_≡_};
 ghost use mathlib.Core.List.{List};
 ghost use Rattle.layers.specs.Layers.{each, on-found, open-markets, halt-account, halt-apart};
 ghost use Rattle.register.specs.Meaning.{Listed, account-in, tied-in, Apart};
+use crate::below::tied_below;
 use fields::Account;
 use fields::Markets;
 use fields::Party;
@@ -33,7 +34,7 @@ pub impl<R: Register> Register for Halt<R> as HaltRegister {
     }
 
     fn tied(&self, code: u32, party: Party) -> bool {
-        self.below.tied(code, party)
+        tied_below(&self.below, code, party)
     }
 }
 

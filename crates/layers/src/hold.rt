@@ -7,6 +7,7 @@ ghost use lib.ListN.{take};
 ghost use Rattle.layers.specs.Codes.{held as isHeld, rising, hold-codes, hold-answer, release-codes, release-answer};
 ghost use Rattle.layers.specs.Layers.{each, on-found, hold-account, hold-apart};
 ghost use Rattle.register.specs.Meaning.{Listed, account-in, tied-in, Apart};
+use crate::below::tied_below;
 use crate::codes::is_among;
 use crate::codes::put;
 use crate::codes::take_out;
@@ -102,7 +103,7 @@ pub impl<R: Register> Register for Hold<R> as HoldRegister {
     }
 
     fn tied(&self, code: u32, party: Party) -> bool {
-        self.below.tied(code, party)
+        tied_below(&self.below, code, party)
     }
 }
 

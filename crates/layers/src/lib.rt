@@ -1,4 +1,5 @@
 // Layers over any register: accounts on hold, and kinds that are halted.
+mod below;
 mod codes;
 pub mod halt;
 pub mod hold;
