@@ -43,7 +43,11 @@ fn push_replies(out: &mut Vec<u8>, text: &[u8]) -> Result<(), AllocError>
 fn counted(text: &[u8]) -> &[u8]
     ensures { λ r. ⌜ now r ≡ take 65536 (now (text .entry)) ⌝ }
 {
-    if text.len() > COUNTED { &text[0..COUNTED] } else { text }
+    if text.len() > COUNTED {
+        &text[0..COUNTED]
+    } else {
+        text
+    }
 }
 
 // The first line of a text and the text behind it; no line at all is an empty one.

@@ -24,7 +24,11 @@ fn push_line(out: &mut Vec<u8>, line: &[u8]) -> Result<(), AllocError>
 }
 
 // Appends the line of an answer, which is written into the buffer first.
-fn push_answer_by(out: &mut Vec<u8>, buffer: &mut [u8], answer: Result<Answer, Refusal>) -> Result<(), AllocError>
+fn push_answer_by(
+    out: &mut Vec<u8>,
+    buffer: &mut [u8],
+    answer: Result<Answer, Refusal>,
+) -> Result<(), AllocError>
     requires { ⌜ 43 ≤ length (now buffer) ⌝ }
     ensures { λ r. ⌜ made r (λ _. vec-items (now (out .exit)) ≡ vec-items (now (out .entry)) ++ ended (answer-line answer)) ⌝ }
 {
@@ -42,7 +46,11 @@ pub fn push_answer(out: &mut Vec<u8>, answer: Result<Answer, Refusal>) -> Result
 }
 
 // Appends the canonical line of a request, which is written into the buffer first.
-fn push_request_by(out: &mut Vec<u8>, buffer: &mut [u8], request: &Request) -> Result<(), AllocError>
+fn push_request_by(
+    out: &mut Vec<u8>,
+    buffer: &mut [u8],
+    request: &Request,
+) -> Result<(), AllocError>
     requires { ⌜ 1135 ≤ length (now buffer) ⌝ }
     ensures { λ r. ⌜ made r (λ _. vec-items (now (out .exit)) ≡ vec-items (now (out .entry)) ++ ended (request-line (now (request .entry)))) ⌝ }
 {

@@ -3,6 +3,7 @@ ghost use mathlib.Core.Path.{_≡_};
 ghost use mathlib.Core.List.{List};
 ghost use Rattle.layers.specs.Layers.{each, on-found, open-markets, halt-account, halt-apart};
 ghost use Rattle.register.specs.Meaning.{Listed, account-in, tied-in, Apart};
+use crate::below::account_below;
 use crate::below::tied_below;
 use fields::Account;
 use fields::Markets;
@@ -30,7 +31,7 @@ pub impl<R: Register> Register for Halt<R> as HaltRegister {
     ghost apart = { λ s. halt-apart (s .halted) (R·Register .accounts (s .below)) (R·Register .apart (s .below)) };
 
     fn account(&self, code: u32) -> Option<Account> {
-        shown(self.below.account(code), self.halted)
+        shown(account_below(&self.below, code), self.halted)
     }
 
     fn tied(&self, code: u32, party: Party) -> bool {

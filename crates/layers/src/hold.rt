@@ -7,6 +7,7 @@ ghost use lib.ListN.{take};
 ghost use Rattle.layers.specs.Codes.{held as isHeld, rising, hold-codes, hold-answer, release-codes, release-answer};
 ghost use Rattle.layers.specs.Layers.{each, on-found, hold-account, hold-apart};
 ghost use Rattle.register.specs.Meaning.{Listed, account-in, tied-in, Apart};
+use crate::below::account_below;
 use crate::below::tied_below;
 use crate::codes::is_among;
 use crate::codes::put;
@@ -99,7 +100,7 @@ pub impl<R: Register> Register for Hold<R> as HoldRegister {
     ghost apart = { λ s. hold-apart (take (s .count) (s .codes)) (R·Register .accounts (s .below)) (R·Register .apart (s .below)) };
 
     fn account(&self, code: u32) -> Option<Account> {
-        shown(self.below.account(code), &self.codes[0..self.count])
+        shown(account_below(&self.below, code), &self.codes[0..self.count])
     }
 
     fn tied(&self, code: u32, party: Party) -> bool {

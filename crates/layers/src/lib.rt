@@ -1,10 +1,12 @@
 // Layers over any register: accounts on hold, and kinds that are halted.
-mod below;
+pub mod below;
 mod codes;
 pub mod halt;
 pub mod hold;
 pub mod stacks;
 
+pub use below::account_below;
+pub use below::tied_below;
 pub use halt::Halt;
 pub use halt::HaltRegister;
 pub use hold::Hold;

@@ -51,8 +51,9 @@ all-in [] h = tt
 all-in (t ∷ ts) h =
     let P : Bool → Type 0 = λ b. in-range (t .range) (t .value) ≡ b → cond b (tested ts) (Err (record { ground = BadField; place = t .place })) ≡ Ok tt → All-in (t ∷ ts) in
     (elim (in-range (t .range) (t .value)) as P [
-      true ↦ λ e k. (e, all-in ts k)
-    | false ↦ λ e k. let z : _≡_ {A = ℕ} 0 1 = cc in absurd (omega arith) ]) refl h
+      | true ↦ λ e k. (e, all-in ts k)
+      | false ↦ λ e k. let z : _≡_ {A = ℕ} 0 1 = cc in absurd (omega arith)
+    ]) refl h
 
 -- a number of a range that 64 bits hold: no comma in its figures, and it reads back
 module _ (r : Range) (n : ℕ) (big : r .most < 2 ^ 64) (h : in-range r n ≡ true) where
@@ -103,14 +104,46 @@ capture-back c h =
     let t = c .terms in
     let p2 = all-in (field-tests (Capture c)) h in let p3 = p2 .1 in let p5 = p3 .1 in let p6 = p5 .1 in let p7 = p6 .1 in
     let p8 = p7 .1 in let p9 = p8 .1 in let p10 = p9 .1 in let p11 = p10 .1 in
-    from-texts 67 (pieces-of (Capture c)) (λ e. omega arith) (Capture c)
-    (plain minutes (c .minute) (omega arith) (p2 .0), (plain numbers (t .number) (omega arith) (p3 .0), ((kind-plain (t .kind), tt), (plain numbers (t .asset) (omega arith) (p5 .0),
-     (plain quantities (t .quantity) (omega arith) (p6 .0), (plain days (t .settlement) (omega arith) (p7 .0), (plain participants (t .buyer .participant) (omega arith) (p8 .0),
-     (plain participants (t .buyer .offeror) (omega arith) (p9 .0), (plain participants (t .seller .participant) (omega arith) (p10 .0),
-     (plain participants (t .seller .offeror) (omega arith) (p11 .0), tt))))))))))
-    (rw (back minutes (c .minute) (omega arith) (p2 .0), back numbers (t .number) (omega arith) (p3 .0), kind-back (t .kind), back numbers (t .asset) (omega arith) (p5 .0),
-     back quantities (t .quantity) (omega arith) (p6 .0), back days (t .settlement) (omega arith) (p7 .0), back participants (t .buyer .participant) (omega arith) (p8 .0),
-     back participants (t .buyer .offeror) (omega arith) (p9 .0), back participants (t .seller .participant) (omega arith) (p10 .0), back participants (t .seller .offeror) (omega arith) (p11 .0)))
+    from-texts 67 (pieces-of (Capture c)) (λ e. omega arith) (Capture c) (
+      plain minutes (c .minute) (omega arith) (p2 .0),
+      (
+        plain numbers (t .number) (omega arith) (p3 .0),
+        (
+          (kind-plain (t .kind), tt),
+          (
+            plain numbers (t .asset) (omega arith) (p5 .0),
+            (
+              plain quantities (t .quantity) (omega arith) (p6 .0),
+              (
+                plain days (t .settlement) (omega arith) (p7 .0),
+                (
+                  plain participants (t .buyer .participant) (omega arith) (p8 .0),
+                  (
+                    plain participants (t .buyer .offeror) (omega arith) (p9 .0),
+                    (
+                      plain participants (t .seller .participant) (omega arith) (p10 .0),
+                      (plain participants (t .seller .offeror) (omega arith) (p11 .0), tt),
+                    ),
+                  ),
+                ),
+              ),
+            ),
+          ),
+        ),
+      ),
+    )
+    (rw (
+      back minutes (c .minute) (omega arith) (p2 .0),
+      back numbers (t .number) (omega arith) (p3 .0),
+      kind-back (t .kind),
+      back numbers (t .asset) (omega arith) (p5 .0),
+      back quantities (t .quantity) (omega arith) (p6 .0),
+      back days (t .settlement) (omega arith) (p7 .0),
+      back participants (t .buyer .participant) (omega arith) (p8 .0),
+      back participants (t .buyer .offeror) (omega arith) (p9 .0),
+      back participants (t .seller .participant) (omega arith) (p10 .0),
+      back participants (t .seller .offeror) (omega arith) (p11 .0),
+    ))
 
 cancel-back : (c : Cancellation) → fields-pass (Cancel c) ≡ Ok tt → request (request-line (Cancel c)) ≡ Ok (Cancel c)
 cancel-back c h =
@@ -138,11 +171,26 @@ include-back c sixteen h =
     let le : c .count ≤ 16 = leb-true (c .count) 16 (and-parts (leb 1 (c .count)) (leb (c .count) 16) (p7 .0) .1) in
     let n : length es ≡ c .count = length-take-le (c .count) (c .entries) (omega arith) in
     let read : entries (c .count) 8 (texts (entry-pieces es)) ≡ Ok (es, []) = subst (λ k. entries k 8 (texts (entry-pieces es)) ≡ Ok (es, [])) n (entries-back es 8 p8) in
-    from-texts 73 (pieces-of (Include c)) (λ e. omega arith) (tidy (Include c))
-    (plain minutes (c .minute) (omega arith) (p2 .0), (plain participants (c .participant) (omega arith) (p3 .0), (plain numbers (c .trade) (omega arith) (p4 .0),
-     ((side-plain (c .side), tt), (plain flags (flag (c .now)) (omega arith) (flag-in (c .now)), (plain entry-counts (c .count) (omega arith) (p7 .0), entries-plain es 8 p8))))))
-    (rw (back minutes (c .minute) (omega arith) (p2 .0), back participants (c .participant) (omega arith) (p3 .0), back numbers (c .trade) (omega arith) (p4 .0), side-back (c .side),
-     back flags (flag (c .now)) (omega arith) (flag-in (c .now)), back entry-counts (c .count) (omega arith) (p7 .0), read, flag-is (c .now)))
+    from-texts 73 (pieces-of (Include c)) (λ e. omega arith) (tidy (Include c)) (
+      plain minutes (c .minute) (omega arith) (p2 .0),
+      (
+        plain participants (c .participant) (omega arith) (p3 .0),
+        (
+          plain numbers (c .trade) (omega arith) (p4 .0),
+          ((side-plain (c .side), tt), (plain flags (flag (c .now)) (omega arith) (flag-in (c .now)), (plain entry-counts (c .count) (omega arith) (p7 .0), entries-plain es 8 p8))),
+        ),
+      ),
+    )
+    (rw (
+      back minutes (c .minute) (omega arith) (p2 .0),
+      back participants (c .participant) (omega arith) (p3 .0),
+      back numbers (c .trade) (omega arith) (p4 .0),
+      side-back (c .side),
+      back flags (flag (c .now)) (omega arith) (flag-in (c .now)),
+      back entry-counts (c .count) (omega arith) (p7 .0),
+      read,
+      flag-is (c .now),
+    ))
 
 module _ (c : SideCall) (h : tested (side-call-tests c) ≡ Ok tt) where
   abbrev side-parts : All-in (side-call-tests c)
@@ -161,11 +209,29 @@ intermediate-back c h =
     let i = c .intermediation in
     let p2 = all-in (field-tests (Intermediate c)) h in let p3 = p2 .1 in let p4 = p3 .1 in let p5 = p4 .1 in let p6 = p5 .1 in let p7 = p6 .1 in
     let big : sold-range (i .bought) .most < 2 ^ 64 = sold-big (i .bought) in
-    from-texts 74 (pieces-of (Intermediate c)) (λ e. omega arith) (Intermediate c)
-    (plain minutes (c .minute) (omega arith) (p2 .0), (plain participants (i .participant) (omega arith) (p3 .0), (plain numbers (i .id) (omega arith) (p4 .0), (plain accounts (i .account) (omega arith) (p5 .0),
-     (plain numbers-or-none (i .bought) (omega arith) (p6 .0), (plain (sold-range (i .bought)) (i .sold) big (p7 .0), (plain flags (flag (c .now)) (omega arith) (flag-in (c .now)), tt)))))))
-    (rw (back minutes (c .minute) (omega arith) (p2 .0), back participants (i .participant) (omega arith) (p3 .0), back numbers (i .id) (omega arith) (p4 .0), back accounts (i .account) (omega arith) (p5 .0),
-     back numbers-or-none (i .bought) (omega arith) (p6 .0), back (sold-range (i .bought)) (i .sold) big (p7 .0), back flags (flag (c .now)) (omega arith) (flag-in (c .now)), flag-is (c .now)))
+    from-texts 74 (pieces-of (Intermediate c)) (λ e. omega arith) (Intermediate c) (
+      plain minutes (c .minute) (omega arith) (p2 .0),
+      (
+        plain participants (i .participant) (omega arith) (p3 .0),
+        (
+          plain numbers (i .id) (omega arith) (p4 .0),
+          (
+            plain accounts (i .account) (omega arith) (p5 .0),
+            (plain numbers-or-none (i .bought) (omega arith) (p6 .0), (plain (sold-range (i .bought)) (i .sold) big (p7 .0), (plain flags (flag (c .now)) (omega arith) (flag-in (c .now)), tt))),
+          ),
+        ),
+      ),
+    )
+    (rw (
+      back minutes (c .minute) (omega arith) (p2 .0),
+      back participants (i .participant) (omega arith) (p3 .0),
+      back numbers (i .id) (omega arith) (p4 .0),
+      back accounts (i .account) (omega arith) (p5 .0),
+      back numbers-or-none (i .bought) (omega arith) (p6 .0),
+      back (sold-range (i .bought)) (i .sold) big (p7 .0),
+      back flags (flag (c .now)) (omega arith) (flag-in (c .now)),
+      flag-is (c .now),
+    ))
 
 module _ (c : IntermediationCall) (h : tested (intermediation-call-tests c) ≡ Ok tt) where
   abbrev call-parts : All-in (intermediation-call-tests c)

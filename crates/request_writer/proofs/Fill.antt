@@ -56,8 +56,9 @@ pub take-min : {X : Type 0} (n : ℕ) (xs : List X) → length xs ≡ 16 → tak
 take-min n xs e =
     let P : Bool → Type 0 = λ t. leb n 16 ≡ t → take (min n 16) xs ≡ take n xs in
     (elim (leb n 16) as P [
-      true ↦ λ t. ap (λ k. take k xs) (min-eq-left (leb-true n 16 t))
-    | false ↦ λ t. let h : 16 < n = leb-false n 16 t in ap (λ k. take k xs) (min-eq-right (omega arith)) ∙ take-all 16 xs (omega arith) ∙ sym (take-all n xs (omega arith)) ]) refl
+      | true ↦ λ t. ap (λ k. take k xs) (min-eq-left (leb-true n 16 t))
+      | false ↦ λ t. let h : 16 < n = leb-false n 16 t in ap (λ k. take k xs) (min-eq-right (omega arith)) ∙ take-all 16 xs (omega arith) ∙ sym (take-all n xs (omega arith))
+    ]) refl
 
 -- the head and the entries together
 pub whole : (n m : ℕ) (es : List Entry) (ps head : List Piece) → length es ≡ 16 → m ≡ min n 16 →

@@ -43,8 +43,9 @@ behind-push v [] d w h e =
 behind-push v (x ∷ xs) d w h e =
     let P : Bool → Type 0 = λ t. cond t (behind (v * 10 + (x - 48)) xs) None ≡ Some w → cond t (behind (v * 10 + (x - 48)) (xs ++ ((48 + d) ∷ []))) None ≡ Some (w * 10 + d) in
     (elim (is-figure x) as P [
-      true ↦ λ k. behind-push (v * 10 + (x - 48)) xs d w h k
-    | false ↦ λ k. let z : _≡_ {A = ℕ} 0 1 = cc in absurd (omega arith) ]) e
+      | true ↦ λ k. behind-push (v * 10 + (x - 48)) xs d w h k
+      | false ↦ λ k. let z : _≡_ {A = ℕ} 0 1 = cc in absurd (omega arith)
+    ]) e
 
 pub behind-decimal : (n : ℕ) → n < 2 ^ 64 → behind 0 (decimal n) ≡ Some n
 behind-decimal n h =
@@ -60,8 +61,9 @@ numeral-decimal n h = numeral-is (decimal n) (decimal-some n h) (no-zero n h) �
     no-zero n h long first =
         let P : Bool → Type 0 = λ t. leb 1 n ≡ t → ⊥ in
         (elim (leb 1 n) as P [
-          true ↦ λ t. omega (arith, first-decimal n (leb-true 1 n t) h)
-        | false ↦ λ t. omega (arith, leb-false 1 n t, one-figure n (omega (arith, leb-false 1 n t))) ]) refl
+          | true ↦ λ t. omega (arith, first-decimal n (leb-true 1 n t) h)
+          | false ↦ λ t. omega (arith, leb-false 1 n t, one-figure n (omega (arith, leb-false 1 n t)))
+        ]) refl
 
 -- a number of the range reads back
 pub number-back : (r : Range) (n : ℕ) → r .most < 2 ^ 64 → in-range r n ≡ true → number r (decimal n) ≡ Some n

@@ -145,7 +145,11 @@ fn write_new_intermediation(out: &mut [u8], c: &NewIntermediation) -> Result<usi
     write_line(out, b'J', &pieces)
 }
 
-fn write_intermediation_call(out: &mut [u8], letter: u8, c: &IntermediationCall) -> Result<usize, Refusal>
+fn write_intermediation_call(
+    out: &mut [u8],
+    letter: u8,
+    c: &IntermediationCall,
+) -> Result<usize, Refusal>
     ensures value { λ r. ⌜ r ≡ sent (line-of letter (intermediation-call-pieces (now (c .entry)))) (now (out .entry)) ⌝ }
     ensures after { λ _. ⌜ now (out .exit) ≡ with-line (line-of letter (intermediation-call-pieces (now (c .entry)))) (now (out .entry)) ⌝ }
     ensures enough { λ r. ⌜ (1135 ≤ length (now (out .entry)) → isOk r ≡ true) ⌝ }
@@ -167,7 +171,14 @@ fn write_kind(out: &mut [u8], request: &Request) -> Result<usize, Refusal>
     match request {
         Request::Capture(c) => write_new_trade(out, c),
         Request::Cancel(c) => {
-            write_line(out, b'X', &[Piece::Number(c.minute as u64), Piece::Number(c.trade as u64)])
+            write_line(
+                out,
+                b'X',
+                &[
+                    Piece::Number(c.minute as u64),
+                    Piece::Number(c.trade as u64),
+                ],
+            )
         }
         Request::Include(c) => write_inclusion(out, c),
         Request::Remove(c) => write_side_call(out, b'D', c),
@@ -176,7 +187,11 @@ fn write_kind(out: &mut [u8], request: &Request) -> Result<usize, Refusal>
         Request::ConfirmIntermediation(c) => write_intermediation_call(out, b'G', c),
         Request::ExcludeIntermediation(c) => write_intermediation_call(out, b'E', c),
         Request::Close(c) => {
-            write_line(out, b'Z', &[Piece::Number(c.minute as u64), Piece::Number(c.day as u64)])
+            write_line(
+                out,
+                b'Z',
+                &[Piece::Number(c.minute as u64), Piece::Number(c.day as u64)],
+            )
         }
     }
 }

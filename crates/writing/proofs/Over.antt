@@ -49,7 +49,8 @@ take-over (x ∷ xs) (b ∷ bs) h = ap (λ l. b ∷ l) (take-over xs bs (omega a
 pub line-in-front : (line out : List ℕ) (n : ℕ) → sent line out ≡ Ok n → (n ≡ length line) × (length line ≤ length out) × (take n (with-line line out) ≡ line)
 line-in-front line out n e =
     let P : Bool → Type 0 = λ t. leb (length line) (length out) ≡ t → cond {A = Result ℕ Refusal} t (Ok (length line)) (Err (record { ground = BufferShort; place = 0 })) ≡ Ok n →
-        (n ≡ length line) × (length line ≤ length out) × (take n (cond t (over out 0 line) out) ≡ line) in
+    (n ≡ length line) × (length line ≤ length out) × (take n (cond t (over out 0 line) out) ≡ line) in
     (elim (leb (length line) (length out)) as P [
-      true ↦ λ t s. let m : n ≡ length line = cc in let le = leb-true (length line) (length out) t in (m, le, ap (λ k. take k (over out 0 line)) m ∙ take-over out line le)
-    | false ↦ λ t s. let z : _≡_ {A = ℕ} 0 1 = cc in absurd (omega arith) ]) refl e
+      | true ↦ λ t s. let m : n ≡ length line = cc in let le = leb-true (length line) (length out) t in (m, le, ap (λ k. take k (over out 0 line)) m ∙ take-over out line le)
+      | false ↦ λ t s. let z : _≡_ {A = ℕ} 0 1 = cc in absurd (omega arith)
+    ]) refl e

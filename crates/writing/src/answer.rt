@@ -17,12 +17,23 @@ pub fn write_answer(out: &mut [u8], answer: Result<Answer, Refusal>) -> Result<u
 {
     match answer {
         Ok(Answer::Written { pairs, first }) => {
-            write_line(out, b'A', &[Piece::Number(pairs as u64), Piece::Number(first as u64)])
+            write_line(
+                out,
+                b'A',
+                &[Piece::Number(pairs as u64), Piece::Number(first as u64)],
+            )
         }
         Ok(Answer::Marked) => write_line(out, b'T', &[]),
         Err(refusal) => {
             let number = refusal.ground.number();
-            write_line(out, b'R', &[Piece::Number(number as u64), Piece::Number(refusal.place as u64)])
+            write_line(
+                out,
+                b'R',
+                &[
+                    Piece::Number(number as u64),
+                    Piece::Number(refusal.place as u64),
+                ],
+            )
         }
     }
 }

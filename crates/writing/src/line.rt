@@ -97,7 +97,10 @@ pub fn write_line(out: &mut [u8], letter: u8, pieces: &[Piece]) -> Result<usize,
     ensures after { λ _. ⌜ now (out .exit) ≡ with-line (line-of letter (now (pieces .entry))) (now (out .entry)) ⌝ }
     ensures enough { λ r. ⌜ (1 + 21 * length (now (pieces .entry)) ≤ length (now (out .entry)) → isOk r ≡ true) ⌝ }
 {
-    let short = Refusal { ground: Ground::BufferShort, place: 0 };
+    let short = Refusal {
+        ground: Ground::BufferShort,
+        place: 0,
+    };
     if out.is_empty() || !has_room(pieces, out.len() - 1) {
         return Err(short);
     }

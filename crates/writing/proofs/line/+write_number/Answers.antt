@@ -30,4 +30,5 @@ returns t c =
     let e = more-figures (c .args .n) (omega arith) (omega arith) in
     record {
       value = omega (arith, w .value);
-      after = ap (λ l. set l (c .write-number-last .result) (48 + c .args .n % 10)) (w .after) ∙ last-over (c .args .out .now) (c .args .at) (c .write-number-last .result) (c .args .n) (omega arith) (omega arith) (w .value) }
+      after = ap (λ l. set l (c .write-number-last .result) (48 + c .args .n % 10)) (w .after) ∙ last-over (c .args .out .now) (c .args .at) (c .write-number-last .result) (c .args .n) (omega arith) (omega arith) (w .value);
+    }

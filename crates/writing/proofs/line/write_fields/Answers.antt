@@ -28,14 +28,16 @@ loop-piece-again c =
     let ps = c .args .pieces .now in
     let i = c .loop-piece .piece-index in
     let h = c .loop-piece-test .taken in
-    let w = c .write-piece-at .ensures in
-    (omega (arith, w .value, c .loop-piece .inv .0, length-more ps i h),
-     w .after ∙ ap (λ l. over (set l (c .loop-piece .at) 44) (c .loop-piece .at + 1) (bytes-of (this ps i h))) (c .loop-piece .inv .1)
-     ∙ over-more ps i h (c .args .out .now) (c .args .start) (c .loop-piece .at) (c .loop-piece .inv .0))
+    let w = c .write-piece-at .ensures in (
+      omega (arith, w .value, c .loop-piece .inv .0, length-more ps i h),
+      w .after ∙ ap (λ l. over (set l (c .loop-piece .at) 44) (c .loop-piece .at + 1) (bytes-of (this ps i h))) (c .loop-piece .inv .1)
+          ∙ over-more ps i h (c .args .out .now) (c .args .start) (c .loop-piece .at) (c .loop-piece .inv .0),
+    )
 
 pub returns : need.returns
 returns c =
     let e = take-all (c .loop-piece .piece-index) (c .args .pieces .now) (omega arith) in
     record {
       value = c .loop-piece .inv .0 ∙ ap (λ l. c .args .start + length (commaed l)) e;
-      after = c .loop-piece .inv .1 ∙ ap (λ l. over (c .args .out .now) (c .args .start) (commaed l)) e }
+      after = c .loop-piece .inv .1 ∙ ap (λ l. over (c .args .out .now) (c .args .start) (commaed l)) e;
+    }

@@ -9,4 +9,5 @@ pub returns-in-Letter : need.returns-in-Letter
 returns-in-Letter c =
     record {
       value = ap (λ p. c .args .at + length (bytes-of p)) (sym (c .in-Letter .is));
-      after = set-over (c .args .out .now) (c .args .at) (c .in-Letter .b) ∙ ap (λ p. over (c .args .out .now) (c .args .at) (bytes-of p)) (sym (c .in-Letter .is)) }
+      after = set-over (c .args .out .now) (c .args .at) (c .in-Letter .b) ∙ ap (λ p. over (c .args .out .now) (c .args .at) (bytes-of p)) (sym (c .in-Letter .is));
+    }
