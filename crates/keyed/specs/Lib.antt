@@ -1,2 +1,4 @@
+pub mod Fronts
 pub mod Lists
+pub mod Places
 pub mod Rows

@@ -1,0 +1,3 @@
+mod Examples
+pub mod Fields
+pub mod Table

@@ -1,0 +1,26 @@
+use mathlib.Core.Path.{sym, _∙_}
+use native.Mathlib.Omega.{arith}
+use Rattle.std.proofs.shelf.Lists.{at-drop-more, at-drop-all}
+use Rattle.std.proofs.shelf.Ways.{tells}
+use Rattle.keyed.specs.Lists.{all, any}
+use Rattle.register.specs.Meaning.{same-party}
+use Rattle.accounts.specs.Rows.{good-party}
+use Rattle.accounts.proofs.Listed.{no-tie}
+use Rattle.accounts.proofs.ties.all_good.Needs as need
+
+pub returns-then-not-in-range : need.returns-then-not-in-range
+returns-then-not-in-range c =
+    let step = at-drop-more (all good-party) (c .args .ties .now) (c .loop-tie .tie-index) no-tie (c .loop-tie-test .taken) in
+    let inv = c .loop-tie .inv in
+    let one = c .if-not-in-range .ensures tt in
+    grind (arith, tells)
+
+pub loop-tie-again : need.loop-tie-again
+loop-tie-again c =
+    let step = at-drop-more (all good-party) (c .args .ties .now) (c .loop-tie .tie-index) no-tie (c .loop-tie-test .taken) in
+    let inv = c .loop-tie .inv in
+    let one = c .if-not-in-range .ensures tt in
+    grind (arith, tells)
+
+pub returns : need.returns
+returns c = sym (c .loop-tie .inv ∙ at-drop-all (all good-party) (c .args .ties .now) (c .loop-tie .tie-index) (c .loop-tie-test .left))

@@ -1,0 +1,4 @@
+pub mod Bands
+pub mod Kinds
+pub mod Numbers
+pub mod Rolls

@@ -1,0 +1,3 @@
+pub mod Each
+mod Examples
+pub mod Held
