@@ -8,10 +8,14 @@ ghost use Rattle.writing.specs.Written.{answer-line};
 ghost use Rattle.request_writer.specs.Canonical.{request-line};
 ghost use lib.ListN.{take};
 ghost use Rattle.text.specs.Fields.{lines};
-ghost use Rattle.request_text.specs.Lines.{opening};
-ghost use Rattle.day.specs.Day.{day-of, ended, of-lines, opened, replies, reply};
+ghost use Rattle.day.specs.Day.{begun, day-of, ended, first-of, others-of, replies, reply};
+use account_text::AccountText;
+use day_files::read_holds;
+use day_files::read_roll;
 use fields::Answer;
 use fields::Refusal;
+use layers::Hold;
+use request_text::Opening;
 use request_text::read_opening;
 use request_text::read_request;
 use request_writer::write_request;
@@ -20,6 +24,15 @@ use std::alloc::AllocError;
 use std::alloc::Global;
 use text::next_line;
 use writing::write_answer;
+
+// The texts of a day.
+#[derive(Clone, Copy)]
+pub struct Files<'a> {
+    pub accounts: &'a [u8],
+    pub holds: &'a [u8],
+    pub roll: &'a [u8],
+    pub input: &'a [u8],
+}
 
 // How many bytes of a text count.
 pub const COUNTED: usize = 65_536;
@@ -112,7 +125,8 @@ fn counted(text: &[u8]) -> &[u8]
 
 // The first line of a text and the text behind it; no line at all is an empty one.
 fn first_line<'a>(text: &'a [u8]) -> (&'a [u8], &'a [u8])
-    ensures { λ r. ⌜ of-lines (lines (now (text .entry))) ≡ opened (opening (now (r .0))) (lines (now (r .1))) ⌝ }
+    ensures first { λ r. ⌜ now (r .0) ≡ first-of (lines (now (text .entry))) ⌝ }
+    ensures others { λ r. ⌜ lines (now (r .1)) ≡ others-of (lines (now (text .entry))) ⌝ }
 {
     match next_line(text) {
         Some(cut) => cut,
@@ -120,13 +134,27 @@ fn first_line<'a>(text: &'a [u8]) -> (&'a [u8], &'a [u8])
     }
 }
 
-// What a day's input is answered with.
-pub fn run(heap: Global, input: &[u8]) -> Result<Vec<u8>, AllocError>
-    ensures { λ r. ⌜ made r (λ v. vec-items v ≡ day-of (now (input .entry))) ⌝ }
+// Reads the files of accounts, holds and numbers and the first line, or tells the first fault.
+fn begin(heap: Global, files: &Files, first: &[u8]) -> Result<Result<Opening, Refusal>, AllocError>
+    ensures { λ r. ⌜ made r (λ q. q ≡ begun (now (now (files .entry) .holds)) (now (now (files .entry) .roll)) (now (first .entry))) ⌝ }
 {
-    let (first, rest) = first_line(counted(input));
+    let mut register = Hold::new(AccountText::new(counted(files.accounts)));
+    if let Err(refusal) = read_holds(&mut register, counted(files.holds)) {
+        return Ok(Err(refusal));
+    }
+    match read_roll(heap, counted(files.roll))? {
+        Ok(_numbers) => Ok(read_opening(first)),
+        Err(refusal) => Ok(Err(refusal)),
+    }
+}
+
+// What a day is answered with.
+pub fn run(heap: Global, files: &Files) -> Result<Vec<u8>, AllocError>
+    ensures { λ r. ⌜ made r (λ v. vec-items v ≡ day-of (now (now (files .entry) .holds)) (now (now (files .entry) .roll)) (now (now (files .entry) .input))) ⌝ }
+{
+    let (first, rest) = first_line(counted(files.input));
     let mut out = Vec::new(heap);
-    match read_opening(first) {
+    match begin(heap, files, first)? {
         Ok(_) => push_replies(&mut out, rest)?,
         Err(refusal) => push_answer(&mut out, Err(refusal))?,
     }

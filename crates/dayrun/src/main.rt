@@ -17,11 +17,17 @@ fn read_text<R: Read + Drop>(from: R, heap: std::alloc::Global) -> io::Result<Ve
 
 fn run_day(rt: &LibcRuntime) -> Result<(), AnyError> {
     let heap = rt.alloc();
-    let _accounts = read_text(fs::open(rt, "accounts.txt")?, heap)?;
-    let _holds = read_text(fs::open(rt, "holds.txt")?, heap)?;
-    let _roll = read_text(fs::open(rt, "roll.txt")?, heap)?;
+    let accounts = read_text(fs::open(rt, "accounts.txt")?, heap)?;
+    let holds = read_text(fs::open(rt, "holds.txt")?, heap)?;
+    let roll = read_text(fs::open(rt, "roll.txt")?, heap)?;
     let input = read_text(rt.stdin(), heap)?;
-    let answers = run(heap, &input)?;
+    let files = day::Files {
+        accounts: &accounts,
+        holds: &holds,
+        roll: &roll,
+        input: &input,
+    };
+    let answers = run(heap, &files)?;
     rt.write_all(&answers)?;
     Ok(())
 }
