@@ -1,0 +1,9 @@
+pub mod Answers
+pub mod Cases
+pub mod Effects
+pub mod Lines
+pub mod Numbering
+pub mod Runs
+pub mod State
+pub mod Steps
+pub mod Tests

@@ -1,0 +1,296 @@
+-- What each change of the tables shows by number.
+use mathlib.Core.Bool.{Bool, true, false}
+use mathlib.Core.List.{List}
+use mathlib.Core.Logic.{⊎-elim}
+use mathlib.Core.Path.{_≡_, refl, sym, ap, _∙_}
+use Prim.Native.Nat.{ℕ}
+use Rattle.std.proofs.shelf.Tests.{cases-eq, ne-eqb, eq-eqb}
+use Rattle.std.specs.declared.option.Option.the-variants.{None}
+use Rattle.fields.specs.declared.trade.Intermediation.{Intermediation}
+use Rattle.fields.specs.declared.trade.Pair.{Pair}
+use Rattle.fields.specs.declared.trade.Side.{Side}
+use Rattle.fields.specs.declared.trade.Side.the-variants.{Buyer, Seller}
+use Rattle.fields.specs.declared.trade.Terms.{Terms}
+use Rattle.keyed.specs.Lists.{or-else, is-some}
+use Rattle.keyed.specs.Rows.{find, changed, entered, removed, rises-above}
+use Rattle.rows.specs.Trades.{number, id, allocation, is-cancelled, is-numbered, no-trade, no-intermediation, at-side, in-state, emptied, numbered, captured as captured-row}
+use Rattle.rows.specs.declared.row.Allocation.{Allocation as Half-row}
+use Rattle.rows.specs.declared.row.AllocationState.{AllocationState}
+use Rattle.rows.specs.declared.row.AllocationState.the-variants.{Empty}
+use Rattle.rows.specs.declared.row.Trade.{Trade}
+use Rattle.chains.proofs.Found.{put-same, row-entered, row-removed, still-there}
+use Rattle.chains.proofs.Ties.{put-on}
+use Rattle.chains.proofs.Walk.{put, Not0, Walk, far, joined}
+use Rattle.chains.proofs.Walks.{put-cases, put-off, far-next, far-far, member}
+use Rattle.book.specs.Effects.{cancelled}
+use Rattle.law.proofs.Shown.{common, tr, jo, shows, same-view, Here, None0, left, made, Only, buyer-view, seller-view, both-view}
+use Rattle.law.proofs.Views.{View, next, prev, sides, link, captured, voided, exclude}
+
+-- the two legs that a side is
+abbrev pub as-bought : ℕ → Side → ℕ
+as-bought n Buyer = n
+as-bought n Seller = 0
+
+abbrev pub as-sold : ℕ → Side → ℕ
+as-sold n Buyer = 0
+as-sold n Seller = n
+
+pub only-side : (w : Side) (d : Trade → Half-row → Half-row) → Only w (λ t. at-side w (d t) t)
+only-side Buyer d = record { terms = λ t. refl; state = λ t. refl; across = λ t. refl }
+only-side Seller d = record { terms = λ t. refl; state = λ t. refl; across = λ t. refl }
+
+-- a side changed, its tie left
+pub side-view : (w : Side) (n : ℕ) (d : Half-row → Half-row) (ts : List Trade) (xs : List Intermediation) (ps : List Pair) → Here n ts → None0 ts
+    → (x : AllocationState) → d (allocation w (tr ts n)) .state ≡ x → d (allocation w (tr ts n)) .tie ≡ allocation w (tr ts n) .tie
+    → shows (changed number n (at-side w d) ts) xs ps ≡ sides (as-bought n w) (as-sold n w) x (shows ts xs ps)
+side-view Buyer n d ts xs ps h z x ex ei =
+    buyer-view n (at-side Buyer d) ts xs ps (only-side Buyer (λ _. d)) h z x ex (tr ts n .buyer .tie) ei
+    ∙ same-view _ _ (record {
+      present = λ m. refl;
+      cancelled = λ m. refl;
+      num = λ m. refl;
+      terms = λ m. refl;
+      buyer = λ m. refl;
+      seller = λ m. sym (put-off 0 x (λ k. tr ts k .seller .state) m (λ e. e));
+      buys = λ m. put-same n (tr ts n .buyer .tie) (λ k. tr ts k .buyer .tie) m (λ _. refl);
+      sells = λ m. refl;
+      bought = λ m. refl;
+      sold = λ m. refl;
+      pairs = refl;
+    })
+side-view Seller n d ts xs ps h z x ex ei =
+    seller-view n (at-side Seller d) ts xs ps (only-side Seller (λ _. d)) h z x ex (tr ts n .seller .tie) ei
+    ∙ same-view _ _ (record {
+      present = λ m. refl;
+      cancelled = λ m. refl;
+      num = λ m. refl;
+      terms = λ m. refl;
+      buyer = λ m. sym (put-off 0 x (λ k. tr ts k .buyer .state) m (λ e. e));
+      seller = λ m. refl;
+      buys = λ m. refl;
+      sells = λ m. put-same n (tr ts n .seller .tie) (λ k. tr ts k .seller .tie) m (λ _. refl);
+      bought = λ m. refl;
+      sold = λ m. refl;
+      pairs = refl;
+    })
+
+-- sides put twice
+pub put-again : {X : Type 0} (a : ℕ) (x y : X) (f : ℕ → X) (m : ℕ) → put a x (put a y f) m ≡ put a x f m
+put-again a x y f m = put-cases (λ r. r ≡ put a x f m) a x (put a y f) m (λ e z. sym (put-on a x f m e z))
+    (λ q. put-off a y f m q ∙ sym (put-off a x f m q))
+
+pub sides-again : (a c : ℕ) (x y : AllocationState) (v : View) → sides a c x (sides a c y v) ≡ sides a c x v
+sides-again a c x y v = same-view _ _ (record {
+  present = λ m. refl;
+  cancelled = λ m. refl;
+  num = λ m. refl;
+  terms = λ m. refl;
+  buyer = put-again a x y (v .buyer);
+  seller = put-again c x y (v .seller);
+  buys = λ m. refl;
+  sells = λ m. refl;
+  bought = λ m. refl;
+  sold = λ m. refl;
+  pairs = refl;
+})
+
+-- an intermediation entered, and one removed
+pub entered-leg : (g : Intermediation → ℕ) (x : Intermediation) (xs : List Intermediation) → Not0 (x .id) → find id (x .id) xs ≡ None
+    → (m : ℕ) → g (jo (entered id x xs) m) ≡ put (x .id) (g x) (λ k. g (jo xs k)) m
+entered-leg g x xs z a m =
+    ap (λ o. g (or-else no-intermediation o)) (row-entered id x xs m a)
+    ∙ ⊎-elim (λ (e : m ≡ x .id). rw (eq-eqb _ _ e) (sym (put-on (x .id) (g x) (λ k. g (jo xs k)) m e (λ y. z (sym e ∙ y)))))
+    (λ (e : m ≡ x .id → ⊥). rw (ne-eqb _ _ e) (sym (put-off (x .id) (g x) (λ k. g (jo xs k)) m (λ q. absurd (e q))))) (cases-eq m (x .id))
+
+pub removed-leg : (g : Intermediation → ℕ) → g no-intermediation ≡ 0 → (n : ℕ) (xs : List Intermediation) → rises-above id 0 xs ≡ true → Not0 n
+    → (m : ℕ) → g (jo (removed id n xs) m) ≡ put n 0 (λ k. g (jo xs k)) m
+removed-leg g gz n xs r z m =
+    ap (λ o. g (or-else no-intermediation o)) (row-removed id n xs m 0 r)
+    ∙ ⊎-elim (λ (e : m ≡ n). rw (eq-eqb _ _ e) (gz ∙ sym (put-on n 0 (λ k. g (jo xs k)) m e (λ y. z (sym e ∙ y)))))
+    (λ (e : m ≡ n → ⊥). rw (ne-eqb _ _ e) (sym (put-off n 0 (λ k. g (jo xs k)) m (λ q. absurd (e q))))) (cases-eq m n)
+
+pub joined-view : (x : Intermediation) (f g : Trade → Trade) (ts : List Trade) (xs : List Intermediation) (ps : List Pair)
+    → Only Buyer f → Only Seller g → Here (x .bought) ts → Here (x .sold) ts → None0 ts → Not0 (x .id) → find id (x .id) xs ≡ None
+    → (d : AllocationState) → ((t : Trade) → f t .buyer .state ≡ d) → ((t : Trade) → g t .seller .state ≡ d)
+    → ((t : Trade) → f t .buyer .tie ≡ x .id) → ((t : Trade) → g t .seller .tie ≡ x .id)
+    → shows (changed number (x .sold) g (changed number (x .bought) f ts)) (entered id x xs) ps
+    ≡ link (x .id) (x .bought) (x .sold) (sides (x .bought) (x .sold) d (shows ts xs ps))
+joined-view x f g ts xs ps of og ha hc z i a d fx gx fi gi =
+    both-view (x .bought) (x .sold) f g ts (entered id x xs) ps of og ha hc z d fx gx (x .id) fi gi
+    ∙ same-view _ _ (record {
+      present = λ m. refl;
+      cancelled = λ m. refl;
+      num = λ m. refl;
+      terms = λ m. refl;
+      buyer = λ m. refl;
+      seller = λ m. refl;
+      buys = λ m. refl;
+      sells = λ m. refl;
+      bought = entered-leg (λ y. y .bought) x xs i a;
+      sold = entered-leg (λ y. y .sold) x xs i a;
+      pairs = refl;
+    })
+
+pub excluded-view : (n : ℕ) (ts : List Trade) (xs : List Intermediation) (ps : List Pair)
+    → Here (jo xs n .bought) ts → Here (jo xs n .sold) ts → None0 ts → Not0 n → rises-above id 0 xs ≡ true
+    → shows (changed number (jo xs n .sold) (at-side Seller emptied) (changed number (jo xs n .bought) (at-side Buyer emptied) ts)) (removed id n xs) ps
+    ≡ exclude n (shows ts xs ps)
+excluded-view n ts xs ps ha hc z i r =
+    both-view (jo xs n .bought) (jo xs n .sold) (at-side Buyer emptied) (at-side Seller emptied) ts (removed id n xs) ps
+    (only-side Buyer (λ _. emptied)) (only-side Seller (λ _. emptied)) ha hc z Empty (λ t. refl) (λ t. refl) 0 (λ t. refl) (λ t. refl)
+    ∙ same-view _ _ (record {
+      present = λ m. refl;
+      cancelled = λ m. refl;
+      num = λ m. refl;
+      terms = λ m. refl;
+      buyer = λ m. refl;
+      seller = λ m. refl;
+      buys = λ m. refl;
+      sells = λ m. refl;
+      bought = removed-leg (λ y. y .bought) refl n xs r i;
+      sold = removed-leg (λ y. y .sold) refl n xs r i;
+      pairs = refl;
+    })
+
+-- an exclusion of none
+pub nothing-excluded : (n : ℕ) (v : View) → v .bought n ≡ 0 → v .sold n ≡ 0 → exclude n v ≡ v
+nothing-excluded n v b s = same-view _ _ (record {
+  present = λ m. refl;
+  cancelled = λ m. refl;
+  num = λ m. refl;
+  terms = λ m. refl;
+  buyer = λ m. put-off (v .bought n) Empty (v .buyer) m (λ e. e ∙ b);
+  seller = λ m. put-off (v .sold n) Empty (v .seller) m (λ e. e ∙ s);
+  buys = λ m. put-off (v .bought n) 0 (v .buys) m (λ e. e ∙ b);
+  sells = λ m. put-off (v .sold n) 0 (v .sells) m (λ e. e ∙ s);
+  bought = λ m. put-same n 0 (v .bought) m (λ _. sym b);
+  sold = λ m. put-same n 0 (v .sold) m (λ _. sym s);
+  pairs = refl;
+})
+
+pub captured-view : (t : Terms) (ts : List Trade) (xs : List Intermediation) (ps : List Pair) → Not0 (t .number) → find number (t .number) ts ≡ None
+    → shows (entered number (captured-row t) ts) xs ps ≡ captured (t .number) (common t) (shows ts xs ps)
+captured-view t ts xs ps z a = same-view _ _ (record {
+  present = λ m. ap is-some (row-entered number (captured-row t) ts m a)
+      ∙ ⊎-elim (λ (e : m ≡ t .number). rw (eq-eqb _ _ e) (sym (put-on (t .number) true (λ k. is-some (find number k ts)) m e (λ y. z (sym e ∙ y)))))
+      (λ (e : m ≡ t .number → ⊥). rw (ne-eqb _ _ e) (sym (put-off (t .number) true (λ k. is-some (find number k ts)) m (λ q. absurd (e q))))) (cases-eq m (t .number));
+  cancelled = field (λ x. is-cancelled (x .state));
+  num = λ m. field (λ x. is-numbered (x .state)) m ∙ put-same (t .number) false (λ k. is-numbered (tr ts k .state)) m (λ _. ap (λ x. is-numbered (x .state)) (sym none));
+  terms = field (λ x. common (x .terms));
+  buyer = field (λ x. x .buyer .state);
+  seller = field (λ x. x .seller .state);
+  buys = λ m. field (λ x. x .buyer .tie) m ∙ put-same (t .number) 0 (λ k. tr ts k .buyer .tie) m (λ _. ap (λ x. x .buyer .tie) (sym none));
+  sells = λ m. field (λ x. x .seller .tie) m ∙ put-same (t .number) 0 (λ k. tr ts k .seller .tie) m (λ _. ap (λ x. x .seller .tie) (sym none));
+  bought = λ m. refl;
+  sold = λ m. refl;
+  pairs = refl;
+})
+  where
+    none : tr ts (t .number) ≡ no-trade
+    none = ap (or-else no-trade) a
+
+    field : {X : Type 0} (g : Trade → X) (m : ℕ) → g (tr (entered number (captured-row t) ts) m) ≡ put (t .number) (g (captured-row t)) (λ k. g (tr ts k)) m
+    field g m = ap (λ o. g (or-else no-trade o)) (row-entered number (captured-row t) ts m a)
+        ∙ ⊎-elim (λ (e : m ≡ t .number). rw (eq-eqb _ _ e) (sym (put-on (t .number) (g (captured-row t)) (λ k. g (tr ts k)) m e (λ y. z (sym e ∙ y)))))
+        (λ (e : m ≡ t .number → ⊥). rw (ne-eqb _ _ e) (sym (put-off (t .number) (g (captured-row t)) (λ k. g (tr ts k)) m (λ q. absurd (e q))))) (cases-eq m (t .number))
+
+pub marked-view : (n : ℕ) (ts : List Trade) (xs : List Intermediation) (ps : List Pair) → Here n ts → None0 ts
+    → shows (changed number n (λ t. in-state (t .state) true t) ts) xs ps ≡ shows ts xs ps
+marked-view n ts xs ps h z =
+    let f : Trade → Trade = λ t. in-state (t .state) true t in
+    same-view _ _ (record {
+      present = still-there number f (λ t. refl) n ts;
+      cancelled = left n f ts (λ t. refl) h z (λ t. is-cancelled (t .state)) (λ _. refl);
+      num = left n f ts (λ t. refl) h z (λ t. is-numbered (t .state)) (λ _. refl);
+      terms = left n f ts (λ t. refl) h z (λ t. common (t .terms)) (λ _. refl);
+      buyer = left n f ts (λ t. refl) h z (λ t. t .buyer .state) (λ _. refl);
+      seller = left n f ts (λ t. refl) h z (λ t. t .seller .state) (λ _. refl);
+      buys = left n f ts (λ t. refl) h z (λ t. t .buyer .tie) (λ _. refl);
+      sells = left n f ts (λ t. refl) h z (λ t. t .seller .tie) (λ _. refl);
+      bought = λ m. refl;
+      sold = λ m. refl;
+      pairs = refl;
+    })
+
+pub voided-view : (n : ℕ) (ts : List Trade) (xs : List Intermediation) (ps : List Pair) → Here n ts → None0 ts → is-numbered (tr ts n .state) ≡ false
+    → tr ts n .buyer .tie ≡ 0 → tr ts n .seller .tie ≡ 0
+    → shows (changed number n cancelled ts) xs ps ≡ voided n (shows ts xs ps)
+voided-view n ts xs ps h z nn zb zs = same-view _ _ (record {
+  present = still-there number cancelled (λ t. refl) n ts;
+  cancelled = made n cancelled ts (λ t. refl) h z (λ t. is-cancelled (t .state)) true refl;
+  num = left n cancelled ts (λ t. refl) h z (λ t. is-numbered (t .state)) (λ _. sym nn);
+  terms = left n cancelled ts (λ t. refl) h z (λ t. common (t .terms)) (λ _. refl);
+  buyer = made n cancelled ts (λ t. refl) h z (λ t. t .buyer .state) Empty refl;
+  seller = made n cancelled ts (λ t. refl) h z (λ t. t .seller .state) Empty refl;
+  buys = left n cancelled ts (λ t. refl) h z (λ t. t .buyer .tie) (λ _. sym zb);
+  sells = left n cancelled ts (λ t. refl) h z (λ t. t .seller .tie) (λ _. sym zs);
+  bought = λ m. refl;
+  sold = λ m. refl;
+  pairs = refl;
+})
+
+-- trades numbered
+abbrev pub re-numbered : (ℕ → Bool) → View → View
+re-numbered b v = record {
+  present = v .present;
+  cancelled = v .cancelled;
+  num = b;
+  terms = v .terms;
+  buyer = v .buyer;
+  seller = v .seller;
+  buys = v .buys;
+  sells = v .sells;
+  bought = v .bought;
+  sold = v .sold;
+  pairs = v .pairs;
+}
+
+pub numbered-one : (n : ℕ) (ts : List Trade) (xs : List Intermediation) (ps : List Pair) → Here n ts → None0 ts → (Not0 n → is-cancelled (tr ts n .state) ≡ false)
+    → shows (changed number n numbered ts) xs ps ≡ re-numbered (put n true (shows ts xs ps .num)) (shows ts xs ps)
+numbered-one n ts xs ps h z nx = same-view _ _ (record {
+  present = still-there number numbered (λ t. refl) n ts;
+  cancelled = left n numbered ts (λ t. refl) h z (λ t. is-cancelled (t .state)) (λ y. sym (nx y));
+  num = made n numbered ts (λ t. refl) h z (λ t. is-numbered (t .state)) true refl;
+  terms = left n numbered ts (λ t. refl) h z (λ t. common (t .terms)) (λ _. refl);
+  buyer = left n numbered ts (λ t. refl) h z (λ t. t .buyer .state) (λ _. refl);
+  seller = left n numbered ts (λ t. refl) h z (λ t. t .seller .state) (λ _. refl);
+  buys = left n numbered ts (λ t. refl) h z (λ t. t .buyer .tie) (λ _. refl);
+  sells = left n numbered ts (λ t. refl) h z (λ t. t .seller .tie) (λ _. refl);
+  bought = λ m. refl;
+  sold = λ m. refl;
+  pairs = refl;
+})
+
+-- three marks number the chain
+pub joined-yes : (prev : ℕ → ℕ) (n : ℕ) (num : ℕ → Bool) (k : ℕ) → Not0 k → far prev k ≡ far prev n → joined prev n num k ≡ true
+unfolding joined
+joined-yes prev n num k z e = rw (ne-eqb _ _ z, eq-eqb _ _ e) refl
+
+pub joined-no : (prev : ℕ → ℕ) (n : ℕ) (num : ℕ → Bool) (k : ℕ) → (Not0 k → far prev k ≡ far prev n → ⊥) → joined prev n num k ≡ num k
+unfolding joined
+joined-no prev n num k h = ⊎-elim (λ (e : k ≡ 0). rw (eq-eqb _ _ e) refl) (λ (z : Not0 k). rw (ne-eqb _ _ z, ne-eqb _ _ (h z)) refl) (cases-eq k 0)
+
+pub marked : (next prev : ℕ → ℕ) → Walk next prev → (n : ℕ) (num : ℕ → Bool) (k : ℕ)
+    → put (next (next (far prev n))) true (put (next (far prev n)) true (put (far prev n) true num)) k ≡ joined prev n num k
+marked next prev w n num k =
+    put-cases (λ y. y ≡ joined prev n num k) h true (put g true (put f true num)) k (λ e z. sym (joined-yes prev n num k z (in-h e z)))
+    (λ qh. put-cases (λ y. y ≡ joined prev n num k) g true (put f true num) k (λ e z. sym (joined-yes prev n num k z (in-g e z)))
+    (λ qg. put-cases (λ y. y ≡ joined prev n num k) f true num k (λ e z. sym (joined-yes prev n num k z (ap (far prev) e ∙ far-far next prev w n)))
+    (λ qf. sym (joined-no prev n num k (λ z e.
+    member next prev w (λ x. x ≡ k → ⊥) k (λ d. z (qf (sym d ∙ e))) (λ d. z (qg (sym d ∙ ap next e))) (λ d. z (qh (sym d ∙ ap (λ x. next (next x)) e))) refl)))))
+  where
+    f : ℕ
+    f = far prev n
+
+    g : ℕ
+    g = next f
+
+    h : ℕ
+    h = next g
+
+    in-g : k ≡ g → Not0 k → far prev k ≡ far prev n
+    in-g e z = ap (far prev) e ∙ far-next next prev w f (λ y. z (e ∙ y)) ∙ far-far next prev w n
+
+    in-h : k ≡ h → Not0 k → far prev k ≡ far prev n
+    in-h e z = ap (far prev) e ∙ far-next next prev w g (λ y. z (e ∙ y))
+        ∙ far-next next prev w f (λ y. z (e ∙ ap next y ∙ w .next-none)) ∙ far-far next prev w n

@@ -1,0 +1,193 @@
+-- In a sound book the chain that is followed is the walk.
+use mathlib.Core.Bool.{Bool, true, false, _&&_, _||_, cond}
+use mathlib.Core.List.{List, [], _∷_}
+use mathlib.Core.Logic.{⊎-elim}
+use mathlib.Core.Path.{_≡_, refl, sym, ap, ap₂, _∙_}
+use Prim.Native.Nat.{ℕ, suc}
+use lib.Dec.{eqb}
+use lib.ListN.{length}
+use Rattle.std.proofs.shelf.Tests.{cases-eq, cases-bool, ne-eqb, eq-eqb, or-parts}
+use Rattle.std.specs.declared.option.Option.{Option}
+use Rattle.std.specs.declared.option.Option.the-variants.{Some, None}
+use Rattle.fields.specs.declared.trade.Intermediation.{Intermediation}
+use Rattle.fields.specs.declared.trade.Side.{Side}
+use Rattle.fields.specs.declared.trade.Side.the-variants.{Buyer, Seller}
+use Rattle.keyed.specs.Lists.{or-else, is-some, all, any}
+use Rattle.keyed.specs.Rows.{find}
+use Rattle.rows.specs.Trades.{number, id, allocation, other, leg, no-trade, no-intermediation}
+use Rattle.rows.specs.declared.row.Trade.{Trade}
+use Rattle.chains.proofs.Found.{row-key, some-by, none-by}
+use Rattle.chains.proofs.Ties.{first-is}
+use Rattle.chains.proofs.Walk.{Not0, one, far, Walk, Half, count-from, whole-from}
+use Rattle.chains.proofs.Walks.{far-is, one-stays, one-goes, turned}
+use Rattle.chains.specs.Following.{Beyond, beyond, by-intermediation, tied-back, onto, way, together, chain, last-of, a-trade, nothing, broken}
+use Rattle.law.proofs.Shown.{tr, jo}
+
+abbrev pub tie-at : List Trade → Side → ℕ → ℕ
+tie-at ts w n = allocation w (tr ts n) .tie
+
+abbrev pub leg-at : List Intermediation → Side → ℕ → ℕ
+leg-at xs w i = leg w (jo xs i)
+
+-- the trade next to a trade, over its side w
+abbrev pub on : List Trade → List Intermediation → Side → ℕ → ℕ
+on ts xs w n = leg-at xs (other w) (tie-at ts w n)
+
+pub leg-some : (xs : List Intermediation) (w : Side) (i : ℕ) → Not0 (leg-at xs w i) → is-some (find id i xs) ≡ true
+leg-some xs w i z = ⊎-elim (λ (e : is-some (find id i xs) ≡ true). e)
+    (λ (e : is-some (find id i xs) ≡ false). absurd (z (ap (λ o. leg w (or-else no-intermediation o)) (none-by (find id i xs) e) ∙ none w)))
+    (cases-bool (is-some (find id i xs)))
+  where
+    none : (w : Side) → leg w no-intermediation ≡ 0
+    none Buyer = refl
+    none Seller = refl
+
+pub jo-id : (xs : List Intermediation) (i : ℕ) → is-some (find id i xs) ≡ true → jo xs i .id ≡ i
+jo-id xs i h = row-key id xs i (jo xs i) (some-by no-intermediation (find id i xs) h) .0
+
+pub tr-number : (ts : List Trade) (n : ℕ) → is-some (find number n ts) ≡ true → number (tr ts n) ≡ n
+tr-number ts n h = row-key number ts n (tr ts n) (some-by no-trade (find number n ts) h) .0
+
+module _ (ts : List Trade) (xs : List Intermediation) (half : (w : Side) → Half (tie-at ts w) (leg-at xs w))
+    (there : (w : Side) (i : ℕ) → Not0 (leg-at xs w i) → is-some (find number (leg-at xs w i) ts) ≡ true) where
+  pub beyond-is : (w : Side) (n : ℕ) → is-some (find number n ts) ≡ true → Not0 n
+      → beyond ts xs w (tr ts n) ≡ cond (eqb (on ts xs w n) 0) nothing (a-trade (tr ts (on ts xs w n)))
+  unfolding beyond
+  beyond-is w n h z =
+      ⊎-elim (λ (e : tie-at ts w n ≡ 0). rw (eq-eqb _ _ e, eq-eqb (on ts xs w n) 0 (ap (leg-at xs (other w)) e ∙ half (other w) .leg-none)) refl)
+      (λ (e : Not0 (tie-at ts w n)).
+      let i = tie-at ts w n in
+      let own : leg-at xs w i ≡ n = half w .back n e in
+      let here : is-some (find id i xs) ≡ true = leg-some xs w i (λ y. z (sym own ∙ y)) in
+      rw (ne-eqb _ _ e) (
+      ap (by-intermediation ts w (tr ts n)) (some-by no-intermediation (find id i xs) here)
+      ∙ by-row w n (jo xs i) (own ∙ sym (tr-number ts n h)) ∙
+      ⊎-elim (λ (d : on ts xs w n ≡ 0). rw (eq-eqb (on ts xs w n) 0 d) refl)
+      (λ (d : Not0 (on ts xs w n)). rw (ne-eqb (on ts xs w n) 0 d) (
+      ap (tied-back w (jo xs i .id)) (some-by no-trade (find number (on ts xs w n) ts) (there (other w) i d))
+      ∙ back-row w (jo xs i .id) (tr ts (on ts xs w n)) (half (other w) .forth i d ∙ sym (jo-id xs i here))))
+      (cases-eq (on ts xs w n) 0)))
+      (cases-eq (tie-at ts w n) 0)
+    where
+      by-row : (w : Side) (n : ℕ) (x : Intermediation) → leg w x ≡ number (tr ts n)
+          → by-intermediation ts w (tr ts n) (Some x) ≡ cond (eqb (leg (other w) x) 0) nothing (tied-back w (x .id) (find number (leg (other w) x) ts))
+      by-row w n x e = rw (eq-eqb _ _ e) refl
+
+      back-row : (w : Side) (i : ℕ) (u : Trade) → allocation (other w) u .tie ≡ i → tied-back w i (Some u) ≡ a-trade u
+      back-row w i u e = rw (eq-eqb _ _ e) refl
+
+  way-on : (w : Side) (most n : ℕ) → is-some (find number n ts) ≡ true → Not0 n
+      → way ts xs w (suc most) (tr ts n) ≡ cond (eqb (on ts xs w n) 0) (Some []) (onto (tr ts (on ts xs w n)) (way ts xs w most (tr ts (on ts xs w n))))
+  unfolding way
+  way-on w most n h z =
+      ap (λ (b : Beyond). elim b as (λ _. Option (List Trade)) [ nothing ↦ Some [] | a-trade u ↦ onto u (way ts xs w most u) | broken ↦ None ]) (beyond-is w n h z)
+      ∙ ⊎-elim (λ (d : eqb (on ts xs w n) 0 ≡ true). rw d refl) (λ (d : eqb (on ts xs w n) 0 ≡ false). rw d refl) (cases-bool (eqb (on ts xs w n) 0))
+
+  way-end : (w : Side) (most n : ℕ) → is-some (find number n ts) ≡ true → Not0 n → on ts xs w n ≡ 0 → way ts xs w (suc most) (tr ts n) ≡ Some []
+  way-end w most n h z e = way-on w most n h z ∙ rw (eq-eqb _ _ e) refl
+
+  on-there : (w : Side) (n : ℕ) → Not0 (on ts xs w n) → is-some (find number (on ts xs w n) ts) ≡ true
+  on-there w n z = there (other w) (tie-at ts w n) z
+
+  -- the trades ahead
+  abbrev pub ahead : Side → ℕ → List Trade
+  ahead w n = cond (eqb (on ts xs w n) 0) [] (tr ts (on ts xs w n) ∷ cond (eqb (on ts xs w (on ts xs w n)) 0) [] (tr ts (on ts xs w (on ts xs w n)) ∷ []))
+
+  pub way-is : (w : Side) (n : ℕ) → is-some (find number n ts) ≡ true → Not0 n → on ts xs w (on ts xs w (on ts xs w n)) ≡ 0
+      → way ts xs w 3 (tr ts n) ≡ Some (ahead w n)
+  way-is w n h z short =
+      way-on w 2 n h z ∙
+      ⊎-elim (λ (d : on ts xs w n ≡ 0). rw (eq-eqb _ _ d) refl)
+      (λ (d : Not0 (on ts xs w n)). rw (ne-eqb _ _ d) (
+      ap (onto (tr ts (on ts xs w n))) (way-on w 1 (on ts xs w n) (on-there w n d) d) ∙
+      ⊎-elim (λ (e : on ts xs w (on ts xs w n) ≡ 0). rw (eq-eqb _ _ e) refl)
+      (λ (e : Not0 (on ts xs w (on ts xs w n))). rw (ne-eqb _ _ e) (
+      ap (λ o. onto (tr ts (on ts xs w n)) (onto (tr ts (on ts xs w (on ts xs w n))) o)) (way-end w 0 (on ts xs w (on ts xs w n)) (on-there w (on ts xs w n) e) e short)))
+      (cases-eq (on ts xs w (on ts xs w n)) 0)))
+      (cases-eq (on ts xs w n) 0)
+
+  abbrev pub line : ℕ → List Trade
+  line f = tr ts f ∷ ahead Buyer f
+
+  two : (x y : Trade) (a b : Bool) (u v : Trade) → together (Some []) x (Some (cond a [] (u ∷ cond b [] (v ∷ [])))) ≡ Some (x ∷ cond a [] (u ∷ cond b [] (v ∷ [])))
+  two x y true b u v = refl
+  two x y false true u v = refl
+  two x y false false u v = refl
+
+  pub chain-is : Walk (on ts xs Buyer) (on ts xs Seller) → (n : ℕ) → is-some (find number n ts) ≡ true → Not0 n
+      → chain ts xs (tr ts n) ≡ Some (line (far (on ts xs Seller) n))
+  unfolding chain
+  chain-is w n h z =
+      let nx = on ts xs Buyer in
+      let pv = on ts xs Seller in
+      ap₂ (λ o q. together o (tr ts n) q) (way-is Seller n h z (turned nx pv w .short n)) (way-is Buyer n h z (w .short n)) ∙
+      ⊎-elim (λ (e : pv n ≡ 0). rw (first-is nx pv w n e, eq-eqb (pv n) 0 e) (two (tr ts n) (tr ts n) (eqb (nx n) 0) (eqb (nx (nx n)) 0) (tr ts (nx n)) (tr ts (nx (nx n)))))
+      (λ (e : Not0 (pv n)).
+      let b : nx (pv n) ≡ n = w .back n e in
+      ⊎-elim (λ (d : pv (pv n) ≡ 0).
+      let f : far pv n ≡ pv n = far-is pv n ∙ ap (one pv) (one-goes pv n e) ∙ one-stays pv (pv n) d in
+      let s : nx (nx n) ≡ 0 = ap (λ k. nx (nx k)) (sym b) ∙ w .short (pv n) in
+      rw (f, ne-eqb (pv n) 0 e, eq-eqb (pv (pv n)) 0 d, b, ne-eqb n 0 z, eq-eqb (nx (nx n)) 0 s) (one-back (tr ts (pv n)) (tr ts n) (eqb (nx n) 0) (tr ts (nx n))))
+      (λ (d : Not0 (pv (pv n))).
+      let c : nx (pv (pv n)) ≡ pv n = w .back (pv n) d in
+      let f : far pv n ≡ pv (pv n) = far-is pv n ∙ ap (one pv) (one-goes pv n e) ∙ one-goes pv (pv n) d in
+      let s : nx n ≡ 0 = ap nx (sym b) ∙ ap (λ k. nx (nx k)) (sym c) ∙ w .short (pv (pv n)) in
+      rw (f, ne-eqb (pv n) 0 e, ne-eqb (pv (pv n)) 0 d, c, b, ne-eqb (pv n) 0 e, ne-eqb n 0 z, eq-eqb (nx n) 0 s) refl)
+      (cases-eq (pv (pv n)) 0))
+      (cases-eq (pv n) 0)
+    where
+      one-back : (x y : Trade) (a : Bool) (u : Trade) → together (Some (x ∷ [])) y (Some (cond a [] (u ∷ []))) ≡ Some (x ∷ (y ∷ cond a [] (u ∷ [])))
+      one-back x y true u = refl
+      one-back x y false u = refl
+
+  -- what holds of a line, trade by trade
+  pub length-line : (f : ℕ) → on ts xs Buyer 0 ≡ 0 → length (line f) ≡ count-from (on ts xs Buyer) f
+  unfolding count-from
+  length-line f z =
+      let nx = on ts xs Buyer in
+      ⊎-elim (λ (e : nx f ≡ 0). rw (eq-eqb (nx f) 0 e, eq-eqb (nx (nx f)) 0 (ap nx e ∙ z)) refl)
+      (λ (e : Not0 (nx f)). rw (ne-eqb (nx f) 0 e) (
+      ⊎-elim (λ (d : nx (nx f) ≡ 0). rw (eq-eqb _ _ d) refl) (λ (d : Not0 (nx (nx f))). rw (ne-eqb _ _ d) refl) (cases-eq (nx (nx f)) 0)))
+      (cases-eq (nx f) 0)
+
+  pub all-line : (p : Trade → Bool) (q : ℕ → Bool) (f : ℕ) → on ts xs Buyer 0 ≡ 0 → q 0 ≡ true → ((k : ℕ) → Not0 k → q k ≡ p (tr ts k)) → Not0 f
+      → all p (line f) ≡ whole-from (on ts xs Buyer) q f
+  unfolding whole-from
+  all-line p q f z q0 qk zf =
+      let nx = on ts xs Buyer in
+      ap (λ b. b && all p (ahead Buyer f)) (sym (qk f zf)) ∙
+      ⊎-elim (λ (e : nx f ≡ 0). rw (e, z, q0) refl)
+      (λ (e : Not0 (nx f)). rw (ne-eqb (nx f) 0 e) (
+      ap (λ b. q f && (b && all p (cond (eqb (nx (nx f)) 0) [] (tr ts (nx (nx f)) ∷ [])))) (sym (qk (nx f) e)) ∙
+      ⊎-elim (λ (d : nx (nx f) ≡ 0). rw (d, q0) refl)
+      (λ (d : Not0 (nx (nx f))). rw (ne-eqb (nx (nx f)) 0 d) (ap (λ b. q f && (q (nx f) && b)) (and-true (p (tr ts (nx (nx f)))) ∙ sym (qk (nx (nx f)) d))))
+      (cases-eq (nx (nx f)) 0)))
+      (cases-eq (nx f) 0)
+    where
+      and-true : (b : Bool) → (b && true) ≡ b
+      and-true true = refl
+      and-true false = refl
+
+  -- none of a line
+  pub none-line : (p : Trade → Bool) (f : ℕ) → any p (line f) ≡ false
+      → (p (tr ts f) ≡ false) × (Not0 (on ts xs Buyer f) → p (tr ts (on ts xs Buyer f)) ≡ false)
+      × (Not0 (on ts xs Buyer f) → Not0 (on ts xs Buyer (on ts xs Buyer f)) → p (tr ts (on ts xs Buyer (on ts xs Buyer f))) ≡ false)
+  none-line p f h =
+      let nx = on ts xs Buyer in
+      let a = or-parts (p (tr ts f)) (any p (ahead Buyer f)) h in
+      let b : Not0 (nx f) → (p (tr ts (nx f)) || any p (cond (eqb (nx (nx f)) 0) [] (tr ts (nx (nx f)) ∷ []))) ≡ false =
+      λ z. rw (ne-eqb (nx f) 0 z) at (a .1) in
+      (a .0,
+      (λ z. or-parts _ _ (b z) .0),
+      (λ z y. or-parts (p (tr ts (nx (nx f)))) false (sym (ap (λ c. any p (cond c [] (tr ts (nx (nx f)) ∷ []))) (ne-eqb (nx (nx f)) 0 y)) ∙ or-parts _ _ (b z) .1) .0))
+
+  pub last-line : (f : ℕ) → on ts xs Buyer 0 ≡ 0 → last-of (line f) ≡ tr ts (far (on ts xs Buyer) f)
+  last-line f z =
+      let nx = on ts xs Buyer in
+      rw far-is (
+      ⊎-elim (λ (e : nx f ≡ 0). rw (one-stays nx f e, one-stays nx f e, eq-eqb (nx f) 0 e) refl)
+      (λ (e : Not0 (nx f)). rw (one-goes nx f e, ne-eqb (nx f) 0 e) (
+      ⊎-elim (λ (d : nx (nx f) ≡ 0). rw (one-stays nx (nx f) d, eq-eqb (nx (nx f)) 0 d) refl)
+      (λ (d : Not0 (nx (nx f))). rw (one-goes nx (nx f) d, ne-eqb (nx (nx f)) 0 d) refl)
+      (cases-eq (nx (nx f)) 0)))
+      (cases-eq (nx f) 0))

@@ -1,0 +1,154 @@
+-- Every run is lawful.
+use mathlib.Core.Bool.{true, false, cond}
+use mathlib.Core.List.{List, [], _∷_}
+use mathlib.Core.Logic.{_⊎_, inl, inr}
+use mathlib.Core.Path.{_≡_, refl, sym, ap, subst, _∙_}
+use Prim.Native.Nat.{ℕ, _≤_}
+use lib.ListN.{length}
+use Rattle.std.proofs.shelf.Tests.{cases-bool}
+use Rattle.std.specs.declared.option.Option.{Option}
+use Rattle.std.specs.declared.option.Option.the-variants.{Some, None}
+use Rattle.std.specs.declared.result.Result.the-variants.{Ok}
+use Rattle.fields.specs.declared.answer.Refusal.{Refusal}
+use Rattle.keyed.specs.Members.{Each}
+use Rattle.register.specs.Meaning.{Listed}
+use Rattle.requests.specs.declared.request.Request.{Request}
+use Rattle.requests.specs.declared.request.Request.the-variants.{Capture, Cancel, Include, Remove, Confirm, Intermediate, ConfirmIntermediation, ExcludeIntermediation, Close}
+use Rattle.rows.specs.declared.row.Trade.{Trade}
+use Rattle.book.specs.Answers.{reply}
+use Rattle.book.specs.Effects.{placed}
+use Rattle.book.specs.Numbering.{if-all-confirmed, chain-confirmed, completed, chain-matches, issuer, with-numbers, confirms-in, effect}
+use Rattle.book.specs.Runs.{History, Beginning, Call, event, rows-named, Run, stepped, ran, begun}
+use Rattle.book.specs.State.{State}
+use Rattle.book.specs.Steps.{Outcome, first-refusal, outcome, step}
+use Rattle.book.specs.Tests.{tests}
+use Rattle.law.proofs.Accepts.{Sound, Confirmed-hold, AllPass, accepted, confirming}
+use Rattle.law.proofs.Beginnings.{beginning-lawful}
+use Rattle.law.proofs.ChainLaw.{chains}
+use Rattle.law.proofs.ChainRows.{Found, completed-found, kind-known}
+use Rattle.law.proofs.Completes.{Confirming, conf-line, conf-chain, conf-all}
+use Rattle.law.proofs.Events.{placed-keeps, call, accepted-keeps}
+use Rattle.law.proofs.Fair.{all-pass, fair-from}
+use Rattle.law.proofs.Histories.{Counted, counted-of, refused-pairs}
+use Rattle.law.proofs.Kept.{nothing-sound}
+use Rattle.law.proofs.PairLaw.{pairs-cleared}
+use Rattle.law.proofs.Placed.{placed-leaves, open-before}
+use Rattle.law.proofs.Quantities.{placed-sound}
+use Rattle.law.proofs.Shown.{view}
+use Rattle.law.proofs.SidesKept.{Kept, placed-fair, accepted as kept-accepted, refused as kept-refused}
+use Rattle.law.proofs.Steps.{ends-hold, enough, unchanged, written}
+use Rattle.law.proofs.Views.{whole-chain}
+use Rattle.law.specs.Law.{Sides, Pairs, Every-run-lawful}
+use Rattle.law.specs.Plain.{closes, plain, last-filling}
+
+-- what a run keeps
+pub record Held (b : Beginning) (h : History) (s : State) : Type 0 where
+  pub sound : Sound s
+  pub kept : Kept (b .day) h s
+  pub pairs : Pairs b h s
+
+module _ (b : Beginning) (h : History) (r : List Listed) (s : State) (q : Request) (k : Held b h s) (e : first-refusal (tests r s q) ≡ None) where
+  pass : AllPass (tests r s q)
+  pass = all-pass (tests r s q) e
+
+  hold : Confirmed-hold r s q
+  hold m c = ends-hold (placed r s q) (placed-sound r s q m e c)
+      (placed-fair (plain (b .day) h) (λ w n. last-filling (b .day) w n h) r s (fair-from (b .day) h s (k .kept .agrees) (k .kept .sides)) (chains s (k .sound)) q pass .adds)
+
+  pub sound-after : Sound (effect r s q)
+  sound-after = accepted s (k .sound) r q pass hold
+
+  abbrev now : History
+  now = event (call q r) (Ok (reply r s q)) (effect r s q) ∷ h
+
+  kept-after : Kept (b .day) now (effect r s q)
+  kept-after = kept-accepted (b .day) h r s q (rows-named (Ok (reply r s q)) (effect r s q .pairs .rows)) (chains s (k .sound)) (k .kept) pass
+
+  counted-after : Counted b now (effect r s q)
+  counted-after = accepted-keeps b h r s q e (k .kept .agrees .pair-count) (kind-known b h r s q (k .kept .agrees)) (counted-of b h s (k .pairs))
+
+  -- what is shown for the chain that was completed
+  by-chain : (c : List Trade) → completed r s q ≡ c
+      → (Sound (with-numbers c (placed r s q)) → Counted b now (with-numbers c (placed r s q)) → Sides (b .day) now (with-numbers c (placed r s q)) → Pairs b now (with-numbers c (placed r s q)))
+      → Pairs b now (effect r s q)
+  unfolding effect
+  by-chain c d f =
+      subst (λ x. Pairs b now (with-numbers x (placed r s q))) (sym d)
+      (f (subst (λ x. Sound (with-numbers x (placed r s q))) d sound-after)
+      (subst (λ x. Counted b now (with-numbers x (placed r s q))) d counted-after)
+      (subst (λ x. Sides (b .day) now (with-numbers x (placed r s q))) d (kept-after .sides)))
+
+  nothing-completed : closes q ≡ false → completed r s q ≡ [] → Pairs b now (effect r s q)
+  nothing-completed c d = by-chain [] d (λ g counted _.
+      unchanged b h s (k .sound) (k .pairs) (placed r s q) (placed-leaves s (k .sound) r q c pass) (placed-keeps r s q c) now g counted)
+
+  chain-completed : closes q ≡ false → (n : ℕ) → confirms-in s q ≡ Some n → Pairs b now (effect r s q)
+  unfolding completed
+  chain-completed c n o = by-whole (cases-bool (whole-chain (view (placed r s q)) n))
+    where
+      conf : Confirming (placed r s q) n
+      conf = confirming s (k .sound) r q pass n o
+
+      is-cond : completed r s q ≡ cond (whole-chain (view (placed r s q)) n) (conf-line (placed r s q) n conf) []
+      is-cond = ap (chain-confirmed (placed r s q)) o ∙ ap if-all-confirmed (conf-chain (placed r s q) n conf)
+          ∙ ap (λ z. cond z (conf-line (placed r s q) n conf) []) (conf-all (placed r s q) n conf)
+
+      by-whole : (whole-chain (view (placed r s q)) n ≡ true) ⊎ (whole-chain (view (placed r s q)) n ≡ false) → Pairs b now (effect r s q)
+      by-whole (inl w) =
+          let d : completed r s q ≡ conf-line (placed r s q) n conf = is-cond ∙ ap (λ z. cond z (conf-line (placed r s q) n conf) []) w in
+          by-chain (conf-line (placed r s q) n conf) d (λ g counted sides.
+          written b h s (k .sound) (k .pairs) (placed r s q) (placed-leaves s (k .sound) r q c pass) (placed-keeps r s q c) n conf (open-before s (k .sound) r q pass n o) w
+          (subst (Each (Found (placed r s q .trades .rows))) d (completed-found r s q))
+          (subst (λ x. length (chain-matches x) ≤ length (issuer x s)) d (enough r s q e n o))
+          (placed-sound r s q n e o) now g counted sides)
+      by-whole (inr w) = nothing-completed c (is-cond ∙ ap (λ z. cond z (conf-line (placed r s q) n conf) []) w)
+
+  still-open : closes q ≡ false → Pairs b now (effect r s q)
+  unfolding completed
+  still-open c = go (confirms-in s q) refl
+    where
+      go : (o : Option ℕ) → confirms-in s q ≡ o → Pairs b now (effect r s q)
+      go None o = nothing-completed c (ap (chain-confirmed (placed r s q)) o)
+      go (Some n) o = chain-completed c n o
+
+pairs-after : (b : Beginning) (h : History) (r : List Listed) (s : State) (q : Request) (k : Held b h s) (e : first-refusal (tests r s q) ≡ None)
+    → Pairs b (event (call q r) (Ok (reply r s q)) (effect r s q) ∷ h) (effect r s q)
+unfolding effect placed completed
+pairs-after b h r s (Capture q) k e = still-open b h r s (Capture q) k e refl
+pairs-after b h r s (Cancel q) k e = still-open b h r s (Cancel q) k e refl
+pairs-after b h r s (Include q) k e = still-open b h r s (Include q) k e refl
+pairs-after b h r s (Remove q) k e = still-open b h r s (Remove q) k e refl
+pairs-after b h r s (Confirm q) k e = still-open b h r s (Confirm q) k e refl
+pairs-after b h r s (Intermediate q) k e = still-open b h r s (Intermediate q) k e refl
+pairs-after b h r s (ConfirmIntermediation q) k e = still-open b h r s (ConfirmIntermediation q) k e refl
+pairs-after b h r s (ExcludeIntermediation q) k e = still-open b h r s (ExcludeIntermediation q) k e refl
+pairs-after b h r s (Close q) k e = pairs-cleared b _ (effect r s (Close q)) refl refl (counted-after b h r s (Close q) k e)
+
+-- one request
+held-step : (b : Beginning) (h : History) (s : State) (c : Call) → Held b h s
+    → (let o : Outcome = step (c .register) s (c .asked) in Held b (event c (o .answer) (o .after) ∷ h) (o .after))
+unfolding step
+held-step b h s c k = go (first-refusal (tests (c .register) s (c .asked))) refl
+  where
+    go : (x : Option Refusal) → first-refusal (tests (c .register) s (c .asked)) ≡ x
+        → Held b (event c (outcome x (c .register) s (c .asked) .answer) (outcome x (c .register) s (c .asked) .after) ∷ h) (outcome x (c .register) s (c .asked) .after)
+    go (Some x) e = record { sound = k .sound; kept = kept-refused (b .day) h (c .register) s (c .asked) x [] (k .kept); pairs = refused-pairs b h s c x (k .pairs) }
+    go None e = record {
+      sound = sound-after b h (c .register) s (c .asked) k e;
+      kept = kept-after b h (c .register) s (c .asked) k e;
+      pairs = pairs-after b h (c .register) s (c .asked) k e }
+
+held-ran : (b : Beginning) (run : Run) (cs : List Call) → Held b (run .history) (run .state) → Held b (ran run cs .history) (ran run cs .state)
+unfolding ran
+held-ran b run [] k = k
+held-ran b run (c ∷ cs) k = held-ran b (stepped run c) cs (held-step b (run .history) (run .state) c k)
+
+held-begun : (b : Beginning) → Held b [] (begun b .state)
+held-begun b =
+    let l = beginning-lawful b in
+    record { sound = record { seen = nothing-sound; trade-keys = refl; intermediation-keys = refl }; kept = record { agrees = l .agrees; sides = l .sides }; pairs = l .pairs }
+
+pub every-run-lawful : Every-run-lawful
+every-run-lawful b cs =
+    let k = held-ran b (begun b) cs (held-begun b) in
+    record { agrees = k .kept .agrees; sides = k .kept .sides; chains = chains (ran (begun b) cs .state) (k .sound); pairs = k .pairs }

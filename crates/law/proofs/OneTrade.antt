@@ -1,0 +1,172 @@
+-- Requests for one trade: a capture, an inclusion, a removal, a confirmation; and a closing.
+use mathlib.Core.Bool.{Bool, true, false, cond, not, _&&_}
+use mathlib.Core.List.{List, [], _∷_, _++_, map}
+use mathlib.Core.Logic.{⊎-elim}
+use mathlib.Core.Path.{_≡_, refl, sym, ap, subst, subst₂, _∙_}
+use Prim.Native.Nat.{ℕ, _+_}
+use lib.Dec.{eqb}
+use Rattle.std.proofs.shelf.Tests.{cases-eq, eqb-true, ne-eqb, eq-eqb, and-parts, not-true, false≢true, true≢false}
+use Rattle.std.specs.declared.option.Option.{Option}
+use Rattle.std.specs.declared.option.Option.the-variants.{Some, None}
+use Rattle.fields.specs.declared.account.Party.{Party}
+use Rattle.fields.specs.declared.answer.Answer.{Answer}
+use Rattle.fields.specs.declared.trade.Entry.{Entry}
+use Rattle.fields.specs.declared.trade.Side.{Side}
+use Rattle.fields.specs.declared.trade.Side.the-variants.{Buyer, Seller}
+use Rattle.fields.specs.declared.trade.Terms.{Terms}
+use Rattle.keyed.specs.Lists.{or-else, is-some}
+use Rattle.keyed.specs.Members.{Each}
+use Rattle.keyed.specs.Rows.{find, entered}
+use Rattle.register.specs.Meaning.{Listed, account-in, tied-in}
+use Rattle.requests.specs.declared.request.Closing.{Closing}
+use Rattle.requests.specs.declared.request.Inclusion.{Inclusion}
+use Rattle.requests.specs.declared.request.NewTrade.{NewTrade}
+use Rattle.requests.specs.declared.request.Request.{Request}
+use Rattle.requests.specs.declared.request.Request.the-variants.{Capture, Include, Remove, Confirm, Close}
+use Rattle.requests.specs.declared.request.SideCall.{SideCall}
+use Rattle.rows.specs.Trades.{number, allocation, party, held, is-empty, filled, emptied, confirmed, confirmed-if, no-trade, captured, total}
+use Rattle.rows.specs.declared.row.Allocation.{Allocation}
+use Rattle.rows.specs.declared.row.AllocationState.the-variants.{Empty, Confirmed}
+use Rattle.rows.specs.declared.row.KeptEntry.{KeptEntry}
+use Rattle.rows.specs.declared.row.Trade.{Trade}
+use Rattle.chains.proofs.Keys.{some-of, none-some, row-entered, each-entered, length-entered, map-entered}
+use Rattle.book.specs.Effects.{placed}
+use Rattle.book.specs.State.{kept-entry, shown, no-account, State, trade, entries-of}
+use Rattle.book.specs.Tests.{own-tests, all-entry-tests, offered-to, Test}
+use Rattle.law.proofs.Fair.{AllPass, pass-right, held-in, Adds, Sided, touched, sided-if, Fair, told-number-is, held-put, held-kept, adds-at, agrees-at, terms-known, held-filled, held-confirmed, shares-kept, same-side}
+use Rattle.law.specs.Law.{Entitled, told}
+use Rattle.law.specs.Plain.{Plain, fed, told-number, filled-as, touch, is-side, Filling, terms-in, empties, fills}
+
+-- the last filling after an accepted request
+abbrev pub next : Plain → (Side → ℕ → Option Filling) → List Listed → Request → Answer → Side → ℕ → Option Filling
+next p o r q a w n = touched (touch p q a w n) r (p .day) (terms-in p n) (o w n)
+
+pub none-there : {X : Type 0} (o : Option X) → not (is-some o) ≡ true → o ≡ None
+none-there None e = refl
+none-there (Some x) e = absurd (false≢true e)
+
+pub found-is : (s : State) (n : ℕ) (t : Trade) → find number n (s .trades .rows) ≡ Some t → trade s n ≡ t
+found-is s n t e = ap (or-else no-trade) e
+
+-- ── Capture ──
+
+captured-holds : (w : Side) (t : Terms) → [] ≡ held (allocation w (captured t))
+captured-holds Buyer t = refl
+captured-holds Seller t = refl
+
+captured-adds : (w : Side) (t : Terms) → Adds w (captured t)
+captured-adds Buyer t e = absurd (true≢false e)
+captured-adds Seller t e = absurd (true≢false e)
+
+absent-holds : (ts : List Trade) (w : Side) (n : ℕ) → find number n ts ≡ None → held-in ts w n ≡ []
+absent-holds ts Buyer n e = ap (λ o. held (allocation Buyer (or-else no-trade o))) e
+absent-holds ts Seller n e = ap (λ o. held (allocation Seller (or-else no-trade o))) e
+
+entered-holds : (ts : List Trade) (t : Terms) → find number (t .number) ts ≡ None → (w : Side) (n : ℕ) → held-in ts w n ≡ held-in (entered number (captured t) ts) w n
+entered-holds ts t e w n =
+    ⊎-elim (λ (i : t .number ≡ n). absent-holds ts w n (subst (λ k. find number k ts ≡ None) i e) ∙ captured-holds w t
+      ∙ ap (λ o. held (allocation w (or-else no-trade o))) (sym (row-entered number (captured t) ts n e ∙ ap (λ b. cond b (Some (captured t)) (find number n ts)) (eq-eqb _ _ i))))
+    (λ (i : t .number ≡ n → ⊥). ap (λ o. held (allocation w (or-else no-trade o))) (sym (row-entered number (captured t) ts n e ∙ ap (λ b. cond b (Some (captured t)) (find number n ts)) (ne-eqb _ _ i))))
+    (cases-eq (t .number) n)
+
+-- ── Entries that passed ──
+
+pub offered-is : (caller : ℕ) (w : Side) (t : Trade) → party w (t .terms) .participant ≡ caller → offered-to caller w t ≡ party w (t .terms)
+offered-is caller w t e = ap (λ (c : ℕ). let x : Party = record { participant = c; offeror = party w (t .terms) .offeror } in x) (sym e)
+
+pub entitled-all : (r : List Listed) (day caller : ℕ) (w : Side) (t : Trade) (place : ℕ) (es : List Entry) (us : List Test) → party w (t .terms) .participant ≡ caller
+    → AllPass (all-entry-tests r day caller w t place es ++ us) → Each (Entitled r day (t .terms) w) (map (kept-entry r) es)
+entitled-all r day caller w t place [] us own p = tt
+entitled-all r day caller w t place (e ∷ es) us own p =
+    (record {
+      account = shown r (e .account);
+      listed = some-of no-account (account-in r (e .account)) (p .0);
+      active-then = p .1 .0;
+      suited = p .1 .1 .0;
+      tied = subst (λ x. tied-in r (e .account) x ≡ true) (offered-is caller w t own) (p .1 .1 .1 .0);
+      type-kept = refl },
+    entitled-all r day caller w t (place + 1) es us own (p .1 .1 .1 .1 .1 .1))
+
+pub filled-state : (now : Bool) (es : List KeptEntry) (tie : ℕ) (d : Allocation) → confirmed-if now (filled es tie d) .state ≡ filled-as now
+filled-state true es tie d = refl
+filled-state false es tie d = refl
+
+module _ (p : Plain) (o : Side → ℕ → Option Filling) (r : List Listed) (s : State) (f : Fair p o s) where
+  pub capture-fair : (q : NewTrade) (a : Answer) → AllPass (own-tests r s (Capture q)) → Fair (fed p (Capture q) a) (next p o r (Capture q) a) (placed r s (Capture q))
+  unfolding own-tests placed
+  capture-fair q a t =
+      let e = none-there (find number (q .terms .number) (s .trades .rows)) (t .0) in
+      let g = f .agrees in
+      let c : Trade = captured (q .terms) in
+      record {
+        agrees = record {
+          day = g .day;
+          trades = map-entered number told-number told told-number-is c (s .trades .rows) ∙ ap (entered told-number (told c)) (g .trades);
+          intermediations = g .intermediations;
+          trade-count = ap (λ n. n + 1) (g .trade-count) ∙ sym (length-entered number c (s .trades .rows));
+          intermediation-count = g .intermediation-count; pair-count = g .pair-count };
+        sided = λ w n. subst (λ es. Sided (o w n) w es) (entered-holds (s .trades .rows) (q .terms) e w n) (f .sided w n);
+        adds = λ w. each-entered number (Adds w) c (s .trades .rows) (captured-adds w (q .terms)) (f .adds w) }
+
+  pub remove-fair : (q : SideCall) (a : Answer) → Fair (fed p (Remove q) a) (next p o r (Remove q) a) (placed r s (Remove q))
+  unfolding placed
+  remove-fair q a = record {
+    agrees = agrees-at (q .side) (q .trade) (λ t. emptied) Empty (λ t d. refl) p s (f .agrees);
+    sided = λ w n. subst (λ es. Sided (next p o r (Remove q) a w n) w es)
+      (sym (held-put (q .side) (q .trade) (λ t. emptied) (s .trades .rows) [] (λ t e. refl) (λ e. refl) w n))
+      (sided-if (is-side (q .side) w && eqb (q .trade) n) empties r (p .day) (terms-in p n) (o w n) w [] (held-in (s .trades .rows) w n) (λ e. (refl, tt)) (f .sided w n));
+    adds = adds-at (q .side) (q .trade) (λ t. emptied) (s .trades .rows) (λ t e k z. absurd (true≢false z)) (f .adds) }
+
+  -- a side that is not empty, confirmed
+  pub confirm-held : (v : Side) (n : ℕ) (t : Trade) → find number n (s .trades .rows) ≡ Some t → is-empty (allocation v (trade s n) .state) ≡ false
+      → held (confirmed (allocation v t)) ≡ held (allocation v t)
+  confirm-held v n t e h = held-confirmed (allocation v t) (ap (λ (x : Trade). is-empty (allocation v x .state)) (sym (found-is s n t e)) ∙ h)
+
+  pub confirm-fair : (q : SideCall) (a : Answer) → AllPass (own-tests r s (Confirm q)) → Fair (fed p (Confirm q) a) (next p o r (Confirm q) a) (placed r s (Confirm q))
+  unfolding own-tests placed
+  confirm-fair q a t =
+      let h : is-empty (allocation (q .side) (trade s (q .trade)) .state) ≡ false = not-true _ (t .1 .1 .1 .1 .1 .1 .1 .0) in
+      record {
+        agrees = agrees-at (q .side) (q .trade) (λ t. confirmed) Confirmed (λ t d. refl) p s (f .agrees);
+        sided = λ w n. subst (λ es. Sided (o w n) w es)
+          (sym (held-kept (q .side) (q .trade) (λ t. confirmed) (s .trades .rows) (λ t e. confirm-held (q .side) (q .trade) t e h) w n)) (f .sided w n);
+        adds = adds-at (q .side) (q .trade) (λ t. confirmed) (s .trades .rows) (λ t e k z.
+          ap (λ es. total (map (λ (e : KeptEntry). e .entry) es)) (confirm-held (q .side) (q .trade) t e h)
+          ∙ k (ap (λ (x : Trade). is-empty (allocation (q .side) x .state)) (sym (found-is s (q .trade) t e)) ∙ h)) (f .adds) }
+
+  pub include-fair : (q : Inclusion) (a : Answer) → AllPass (own-tests r s (Include q)) → Fair (fed p (Include q) a) (next p o r (Include q) a) (placed r s (Include q))
+  unfolding own-tests placed
+  include-fair q a t =
+      let n = q .trade in
+      let v = q .side in
+      let es = map (kept-entry r) (entries-of q) in
+      let own : party v (trade s n .terms) .participant ≡ q .participant = eqb-true _ _ (t .1 .1 .1 .1 .0) in
+      let here : find number n (s .trades .rows) ≡ Some (trade s n) = some-of no-trade (find number n (s .trades .rows)) (t .0) in
+      let good = entitled-all r (s .day) (q .participant) v (trade s n) 1 (entries-of q) _ own (t .1 .1 .1 .1 .1 .1 .1) in
+      let sums : total (entries-of q) ≡ trade s n .terms .quantity =
+        eqb-true _ _ (pass-right (all-entry-tests r (s .day) (q .participant) v (trade s n) 1 (entries-of q)) _ (t .1 .1 .1 .1 .1 .1 .1) .0) in
+      let rule : Trade → Allocation → Allocation = λ t d. confirmed-if (q .now) (filled es 0 d) in
+      let fills-it : Sided (touched (fills (entries-of q)) r (p .day) (terms-in p n) (o v n)) v es =
+        (shares-kept r (entries-of q), subst₂ (λ day m. Each (Entitled r day m v) es) (f .agrees .day) (sym (terms-known p s (f .agrees) n)) good) in
+      record {
+        agrees = agrees-at v n rule (filled-as (q .now)) (λ t d. filled-state (q .now) es 0 d) p s (f .agrees);
+        sided = λ w m. subst (λ ds. Sided (next p o r (Include q) a w m) w ds)
+          (sym (held-put v n rule (s .trades .rows) es (λ t e. held-filled (q .now) es 0 (allocation v t)) (λ e. absurd (none-some _ (sym e ∙ here))) w m))
+          (sided-if (is-side v w && eqb n m) (fills (entries-of q)) r (p .day) (terms-in p m) (o w m) w es (held-in (s .trades .rows) w m)
+            (λ e. let b = and-parts _ _ e in
+              subst₂ (λ w m. Sided (touched (fills (entries-of q)) r (p .day) (terms-in p m) (o w m)) w es) (same-side v w (b .0)) (eqb-true n m (b .1)) fills-it)
+            (f .sided w m));
+        adds = adds-at v n rule (s .trades .rows) (λ t e k z.
+          ap (λ ds. total (map (λ (e : KeptEntry). e .entry) ds)) (held-filled (q .now) es 0 (allocation v t))
+          ∙ ap total (shares-kept r (entries-of q)) ∙ sums ∙ ap (λ (x : Trade). x .terms .quantity) (found-is s n t e)) (f .adds) }
+
+  pub close-fair : (q : Closing) (a : Answer) → Fair (fed p (Close q) a) (next p o r (Close q) a) (placed r s (Close q))
+  unfolding placed
+  close-fair q a = record {
+    agrees = record { day = refl; trades = refl; intermediations = refl; trade-count = refl; intermediation-count = refl; pair-count = refl };
+    sided = nothing;
+    adds = λ w. tt }
+    where
+      nothing : (w : Side) (n : ℕ) → Sided None w (held-in [] w n)
+      nothing Buyer n = (refl, tt)
+      nothing Seller n = (refl, tt)

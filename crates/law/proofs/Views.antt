@@ -1,0 +1,185 @@
+-- The book seen by numbers: what stands at each trade and at each intermediation.
+use mathlib.Core.Bool.{Bool, true, false, not, _&&_, cond}
+use mathlib.Core.List.{List, [], _++_}
+use mathlib.Core.Path.{_≡_}
+use Prim.Native.Nat.{ℕ}
+use lib.Dec.{eqb}
+use Rattle.fields.specs.declared.trade.Kind.{Kind}
+use Rattle.fields.specs.declared.trade.Kind.the-variants.{Selic}
+use Rattle.rows.specs.Trades.{is-confirmed}
+use Rattle.rows.specs.declared.row.AllocationState.{AllocationState}
+use Rattle.rows.specs.declared.row.AllocationState.the-variants.{Empty}
+use Rattle.chains.proofs.Walk.{put, Not0, far, whole, Pair, joined, Half, Numbered}
+
+abbrev pub sure : AllocationState → Bool
+sure x = is-confirmed x
+
+-- what the trades of a chain have in common
+pub record Common : Type 0 where
+  pub kind : Kind
+  pub asset : ℕ
+  pub quantity : ℕ
+  pub settlement : ℕ
+
+-- 0 is no trade, no intermediation and no tie
+pub record View : Type 0 where
+  pub present : ℕ → Bool
+  pub cancelled : ℕ → Bool
+  pub num : ℕ → Bool
+  pub terms : ℕ → Common
+  pub buyer : ℕ → AllocationState
+  pub seller : ℕ → AllocationState
+  pub buys : ℕ → ℕ
+  pub sells : ℕ → ℕ
+  pub bought : ℕ → ℕ
+  pub sold : ℕ → ℕ
+  pub pairs : List Pair
+
+abbrev pub next : View → ℕ → ℕ
+next v n = v .sold (v .buys n)
+
+abbrev pub prev : View → ℕ → ℕ
+prev v n = v .bought (v .sells n)
+
+unfoldable pub full-by : (ℕ → AllocationState) → (ℕ → AllocationState) → ℕ → Bool
+full-by buyer seller n = cond (eqb n 0) true (sure (buyer n) && sure (seller n))
+
+abbrev pub full : View → ℕ → Bool
+full v = full-by (v .buyer) (v .seller)
+
+abbrev pub first : View → ℕ → ℕ
+first v = far (prev v)
+
+abbrev pub last : View → ℕ → ℕ
+last v = far (next v)
+
+abbrev pub whole-chain : View → ℕ → Bool
+whole-chain v n = whole (next v) (prev v) (full v) n
+
+-- the buyer side of a and the seller side of c
+abbrev pub sides : ℕ → ℕ → AllocationState → View → View
+sides a c x v = record {
+  present = v .present;
+  cancelled = v .cancelled;
+  num = v .num;
+  terms = v .terms;
+  buyer = put a x (v .buyer);
+  seller = put c x (v .seller);
+  buys = v .buys;
+  sells = v .sells;
+  bought = v .bought;
+  sold = v .sold;
+  pairs = v .pairs;
+}
+
+abbrev pub link : ℕ → ℕ → ℕ → View → View
+link id a c v = record {
+  present = v .present;
+  cancelled = v .cancelled;
+  num = v .num;
+  terms = v .terms;
+  buyer = v .buyer;
+  seller = v .seller;
+  buys = put a id (v .buys);
+  sells = put c id (v .sells);
+  bought = put id a (v .bought);
+  sold = put id c (v .sold);
+  pairs = v .pairs;
+}
+
+abbrev pub unlink : ℕ → View → View
+unlink id v = record {
+  present = v .present;
+  cancelled = v .cancelled;
+  num = v .num;
+  terms = v .terms;
+  buyer = v .buyer;
+  seller = v .seller;
+  buys = put (v .bought id) 0 (v .buys);
+  sells = put (v .sold id) 0 (v .sells);
+  bought = put id 0 (v .bought);
+  sold = put id 0 (v .sold);
+  pairs = v .pairs;
+}
+
+abbrev pub captured : ℕ → Common → View → View
+captured n t v = record {
+  present = put n true (v .present);
+  cancelled = put n false (v .cancelled);
+  num = v .num;
+  terms = put n t (v .terms);
+  buyer = put n Empty (v .buyer);
+  seller = put n Empty (v .seller);
+  buys = v .buys;
+  sells = v .sells;
+  bought = v .bought;
+  sold = v .sold;
+  pairs = v .pairs;
+}
+
+abbrev pub voided : ℕ → View → View
+voided n v = record {
+  present = v .present;
+  cancelled = put n true (v .cancelled);
+  num = v .num;
+  terms = v .terms;
+  buyer = put n Empty (v .buyer);
+  seller = put n Empty (v .seller);
+  buys = v .buys;
+  sells = v .sells;
+  bought = v .bought;
+  sold = v .sold;
+  pairs = v .pairs;
+}
+
+-- the chain of n becomes N and has its pairs
+abbrev pub numbered : List Pair → ℕ → View → View
+numbered ps n v = record {
+  present = v .present;
+  cancelled = v .cancelled;
+  num = joined (prev v) n (v .num);
+  terms = v .terms;
+  buyer = v .buyer;
+  seller = v .seller;
+  buys = v .buys;
+  sells = v .sells;
+  bought = v .bought;
+  sold = v .sold;
+  pairs = v .pairs ++ ps;
+}
+
+-- one of two legs that is there
+abbrev pub leg : ℕ → ℕ → ℕ
+leg a c = cond (eqb a 0) c a
+
+abbrev pub exclude : ℕ → View → View
+exclude id v = unlink id (sides (v .bought id) (v .sold id) Empty v)
+
+abbrev pub nothing : View
+nothing = record {
+  present = λ n. false;
+  cancelled = λ n. false;
+  num = λ n. false;
+  terms = λ n. record { kind = Selic; asset = 0; quantity = 0; settlement = 0 };
+  buyer = λ n. Empty;
+  seller = λ n. Empty;
+  buys = λ n. 0;
+  sells = λ n. 0;
+  bought = λ n. 0;
+  sold = λ n. 0;
+  pairs = [];
+}
+
+-- captured and not cancelled
+abbrev pub live : View → ℕ → Bool
+live v n = v .present n && not (v .cancelled n)
+
+-- what every request keeps
+pub record Sound (v : View) : Type 0 where
+  pub buying : Half (v .buys) (v .bought)
+  pub selling : Half (v .sells) (v .sold)
+  pub short : (n : ℕ) → next v (next v (next v n)) ≡ 0
+  pub alike : (n : ℕ) → Not0 (next v n) → v .terms (next v n) ≡ v .terms n
+  pub numbers : Numbered (next v) (prev v) (full v) (v .num) (v .pairs)
+  pub none : v .present 0 ≡ false
+  pub blank : (n : ℕ) → live v n ≡ false → (v .buys n ≡ 0) × (v .sells n ≡ 0) × (v .buyer n ≡ Empty)

@@ -1,0 +1,13 @@
+-- Hours.
+use mathlib.Core.Bool.{Bool, cond}
+use Prim.Native.Nat.{ℕ}
+use lib.Dec.{leb}
+use Rattle.fields.specs.declared.trade.Terms.{Terms}
+use Rattle.rows.specs.Accounts.{is-selic}
+
+abbrev pub last-minute : ℕ → Terms → ℕ
+last-minute day t =
+    cond (leb (t .settlement) day) (cond (is-selic (t .kind)) 1080 1060) (cond (is-selic (t .kind)) 1200 1170)
+
+abbrev pub in-time : ℕ → ℕ → Terms → Bool
+in-time day minute t = leb minute (last-minute day t)

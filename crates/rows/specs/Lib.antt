@@ -1,0 +1,4 @@
+pub mod Accounts
+pub mod Hours
+pub mod InUse
+pub mod Trades
