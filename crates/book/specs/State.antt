@@ -1,6 +1,6 @@
 -- State.
 use mathlib.Core.Bool.{Bool, cond, false, not, _&&_, _||_}
-use mathlib.Core.List.{List, []}
+use mathlib.Core.List.{List, [], map}
 use Prim.Native.Nat.{ℕ}
 use lib.ListN.{take}
 use Rattle.std.specs.declared.option.Option.{Option}
@@ -19,7 +19,7 @@ use Rattle.requests.specs.declared.request.Inclusion.{Inclusion}
 use Rattle.rows.specs.Trades.{has-leg, id, leg, no-intermediation, no-trade, number}
 use Rattle.rows.specs.declared.row.KeptEntry.{KeptEntry}
 use Rattle.rows.specs.declared.row.Trade.{Trade}
-use Rattle.chains.specs.Following.{chain}
+use Rattle.chains.specs.Following.{chain, tie-in}
 
 -- the book's day, its tables, and the numbers that the two issuers have left
 pub record State : Type 0 where
@@ -37,12 +37,12 @@ trade s n = or-else no-trade (find number n (s .trades .rows))
 abbrev pub intermediation : State → ℕ → Intermediation
 intermediation s n = or-else no-intermediation (find id n (s .intermediations .rows))
 
-abbrev pub chain-in : State → Trade → Option (List Trade)
-chain-in s t = chain (s .trades .rows) (s .intermediations .rows) t
+abbrev pub chain-in : State → ℕ → Option (List ℕ)
+chain-in s n = chain (tie-in (s .trades .rows)) (s .intermediations .rows) n
 
 -- the trades of a chain that is whole, else none
 abbrev pub chain-of : State → ℕ → List Trade
-chain-of s n = or-else [] (chain-in s (trade s n))
+chain-of s n = map (trade s) (or-else [] (chain-in s n))
 
 abbrev pub with-trades : (Table Trade → Table Trade) → State → State
 with-trades f s = record { day = s .day; trades = f (s .trades); intermediations = s .intermediations; pairs = s .pairs; selic = s .selic; control = s .control }

@@ -78,7 +78,7 @@ abbrev pub trade-tests : State → ℕ → ℕ → ℕ → List Test
 trade-tests s place minute n =
     test ground.NoTrade place (is-some (find number n (s .trades .rows)))
     ∷ test ground.TradeCancelled place (not (is-cancelled (trade s n .state)))
-    ∷ test ground.BrokenChain place (is-some (chain-in s (trade s n)))
+    ∷ test ground.BrokenChain place (is-some (chain-in s n))
     ∷ test ground.TooLate place (in-time (s .day) minute (trade s n .terms)) ∷ []
 
 -- 13, 14, 15: its side
@@ -130,7 +130,7 @@ abbrev pub intermediation-tests : State → ℕ → ℕ → ℕ → List Test
 intermediation-tests s minute caller n =
     test ground.NoIntermediation 0 (is-some (find id n (s .intermediations .rows)))
     ∷ test ground.NotOwner 0 (eqb (intermediation s n .participant) caller)
-    ∷ test ground.BrokenChain 0 (legs-hold s (intermediation s n) && is-some (chain-in s (trade s (any-leg (intermediation s n)))))
+    ∷ test ground.BrokenChain 0 (legs-hold s (intermediation s n) && is-some (chain-in s (any-leg (intermediation s n))))
     ∷ test ground.TooLate 0 (each-leg (λ w. in-time (s .day) minute (trade s (leg w (intermediation s n)) .terms)) (intermediation s n)) ∷ []
 
 -- the tests of each request behind 2 and 4

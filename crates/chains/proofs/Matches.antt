@@ -5,10 +5,10 @@ use mathlib.Core.Logic.{_⊎_, inl, inr}
 use mathlib.Core.Path.{_≡_, refl, sym, ap, _∙_}
 use Prim.Native.Nat.{ℕ, zero, suc, _+_, _-_, _<_, _≤_, min}
 use native.Mathlib.Omega.{arith}
-use lib.Dec.{eqb}
+use lib.Dec.{eqb, ltb}
 use lib.ListN.{length, take, drop}
 use Rattle.std.proofs.shelf.Lists.{take-append-drop}
-use Rattle.std.proofs.shelf.Tests.{cond-both, cases-lt, eqb-true, eqb-false}
+use Rattle.std.proofs.shelf.Tests.{cond-both, cases-lt, ltb-true, ltb-false}
 use Rattle.fields.specs.declared.trade.Entry.{Entry}
 use Rattle.fields.specs.declared.trade.Pair.{Pair}
 use Rattle.keyed.specs.Lists.{those, sum}
@@ -40,39 +40,30 @@ whole : (t : Bool) (a b c : ℕ) → a ≡ c → b + cond t c 0 ≡ cond t a 0 +
 whole true a b c h = omega arith
 whole false a b c h = omega arith
 
-left : ℕ → Entry → Entry
+abbrev left : ℕ → Entry → Entry
 left n e = record { account = e .account; quantity = e .quantity - n; client = e .client }
+
+-- some of it is left, or none
+less-cases : (P : List Entry → Type 0) (e : Entry) (es : List Entry) (n : ℕ) → (n < e .quantity → P (left n e ∷ es)) → (e .quantity ≤ n → P es) → P (less n e es)
+less-cases P e es n part gone = cond-both (ltb n (e .quantity)) (left n e ∷ es) es P (λ t. part (ltb-true _ _ t)) (λ t. gone (ltb-false _ _ t))
 
 less-sum : (p : ℕ → Bool) (e : Entry) (es : List Entry) (n : ℕ) → n ≤ e .quantity
     → sum (counted p) (less n e es) + cond (p (e .account)) n 0 ≡ sum (counted p) (e ∷ es)
-less-sum p e es n h =
-    cond-both (eqb (e .quantity) n) es (record { account = e .account; quantity = e .quantity - n; client = e .client } ∷ es)
-    (λ xs. sum (counted p) xs + cond (p (e .account)) n 0 ≡ sum (counted p) (e ∷ es))
-    (λ t. whole (p (e .account)) (e .quantity) (sum (counted p) es) n (eqb-true (e .quantity) n t))
-    (λ t. parted (p (e .account)) (e .quantity) (sum (counted p) es) n h)
+less-sum p e es n h = less-cases (λ xs. sum (counted p) xs + cond (p (e .account)) n 0 ≡ sum (counted p) (e ∷ es)) e es n
+    (λ _. parted (p (e .account)) (e .quantity) (sum (counted p) es) n h)
+    (λ l. whole (p (e .account)) (e .quantity) (sum (counted p) es) n (omega arith))
 
 less-total : (e : Entry) (es : List Entry) (n : ℕ) → n ≤ e .quantity → total (less n e es) + n ≡ total (e ∷ es)
-less-total e es n h =
-    cond-both (eqb (e .quantity) n) es (record { account = e .account; quantity = e .quantity - n; client = e .client } ∷ es)
-    (λ xs. total xs + n ≡ total (e ∷ es))
-    (λ t. let same = eqb-true (e .quantity) n t in omega arith)
-    (λ t. omega arith)
+less-total e es n h = less-cases (λ xs. total xs + n ≡ total (e ∷ es)) e es n (λ _. omega arith) (λ l. omega arith)
 
-less-positive : (e : Entry) (es : List Entry) (n : ℕ) → n ≤ e .quantity → Positive es → Positive (less n e es)
-less-positive e es n h p =
-    cond-both (eqb (e .quantity) n) es (record { account = e .account; quantity = e .quantity - n; client = e .client } ∷ es) Positive
-    (λ t. p)
-    (λ t. (let differ = eqb-false (e .quantity) n t in omega arith, p))
+less-positive : (e : Entry) (es : List Entry) (n : ℕ) → Positive es → Positive (less n e es)
+less-positive e es n p = less-cases Positive e es n (λ l. (omega arith, p)) (λ _. p)
 
 less-length : (e : Entry) (es : List Entry) (n : ℕ) → length (less n e es) ≤ suc (length es)
-less-length e es n =
-    cond-both (eqb (e .quantity) n) es (record { account = e .account; quantity = e .quantity - n; client = e .client } ∷ es) (λ xs. length xs ≤ suc (length es))
-    (λ t. omega arith) (λ t. omega arith)
+less-length e es n = less-cases (λ xs. length xs ≤ suc (length es)) e es n (λ _. omega arith) (λ _. omega arith)
 
 used-length : (e : Entry) (es : List Entry) (n : ℕ) → e .quantity ≡ n → length (less n e es) ≡ length es
-used-length e es n h =
-    cond-both (eqb (e .quantity) n) es (record { account = e .account; quantity = e .quantity - n; client = e .client } ∷ es) (λ xs. length xs ≡ length es)
-    (λ t. refl) (λ t. absurd (eqb-false (e .quantity) n t h))
+used-length e es n h = less-cases (λ xs. length xs ≡ length es) e es n (λ l. absurd (omega arith)) (λ _. refl)
 
 -- one of the two foremost entries is used up
 one-used : (d b : Entry) (sold bought : List Entry) (n : ℕ) → n ≡ min (d .quantity) (b .quantity)
@@ -86,7 +77,7 @@ one-used d b sold bought n h =
 level-on : (d b : Entry) (sold bought : List Entry) (n : ℕ) → n ≡ min (d .quantity) (b .quantity)
     → Level (d ∷ sold) (b ∷ bought) → Level (less n d sold) (less n b bought)
 level-on d b sold bought n h l =
-    (less-positive d sold n (omega arith) (l .0 .1), less-positive b bought n (omega arith) (l .1 .1),
+    (less-positive d sold n (l .0 .1), less-positive b bought n (l .1 .1),
       omega (arith, less-total d sold n (omega arith), less-total b bought n (omega arith), l .2))
 
 -- ── What is taken ──
@@ -98,7 +89,7 @@ taken-positive (p ∷ ps) (s ∷ sold) [] d b t = absurd t
 taken-positive (p ∷ ps) (s ∷ sold) (e ∷ bought) d b t =
     (omega (arith, t .2, d .0, b .0),
       taken-positive ps (less (p .quantity) s sold) (less (p .quantity) e bought)
-      (less-positive s sold (p .quantity) (omega (arith, t .2)) (d .1)) (less-positive e bought (p .quantity) (omega (arith, t .2)) (b .1)) (t .3))
+      (less-positive s sold (p .quantity) (d .1)) (less-positive e bought (p .quantity) (b .1)) (t .3))
 
 few : (ps : List Pair) (sold bought : List Entry) → Taken ps sold bought → length ps ≤ length sold + length bought - 1
 few [] sold bought t = omega arith

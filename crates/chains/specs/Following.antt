@@ -1,7 +1,9 @@
--- Following.
+-- Following a chain of trades.
+-- A two-trade intermediation leads from its bought trade, whose buyer side it holds, to its sold trade, whose seller side it holds. So a
+-- chain goes on over the buyer side of a trade, and back over its seller side.
 use mathlib.Core.Bool.{cond}
-use mathlib.Core.List.{List, [], reverse, _∷_, _++_}
-use Prim.Native.Nat.{suc, zero, ℕ}
+use mathlib.Core.List.{List, [], _∷_, _++_, reverse}
+use Prim.Native.Nat.{ℕ, zero, suc}
 use lib.Dec.{eqb, leb}
 use lib.ListN.{length}
 use Rattle.std.specs.declared.option.Option.{Option}
@@ -13,47 +15,72 @@ use Rattle.keyed.specs.Rows.{find}
 use Rattle.rows.specs.Trades.{allocation, id, leg, no-trade, number, other}
 use Rattle.rows.specs.declared.row.Trade.{Trade}
 
--- what stands beyond a trade's side
+-- All that a chain reads of the trades: the id of the intermediation that holds side w of trade n, 0 if none does, and nothing if there is no
+-- such trade.
+abbrev pub tie-of : Side → Option Trade → Option ℕ
+tie-of w None = None
+tie-of w (Some t) = Some (allocation w t .tie)
+
+abbrev pub tie-in : List Trade → Side → ℕ → Option ℕ
+tie-in ts w n = tie-of w (find number n ts)
+
+-- What stands beyond a side of a trade: nothing, so that the chain ends there; a trade, by its number; or a tie that leads to no row, or not
+-- back.
 pub data Beyond : Type 0 where
   nothing : Beyond
-  a-trade : Trade → Beyond
+  a-trade : ℕ → Beyond
   broken : Beyond
 
--- the trade found there must be tied back on its other side by the same id
-abbrev pub tied-back : Side → ℕ → Option Trade → Beyond
-tied-back w n None = broken
-tied-back w n (Some u) = cond (eqb (allocation (other w) u .tie) n) (a-trade u) broken
+-- the trade n beyond must be there, and be tied back on its other side by the same id
+abbrev pub tied-back : ℕ → ℕ → Option ℕ → Beyond
+tied-back id n None = broken
+tied-back id n (Some tie) = cond (eqb tie id) (a-trade n) broken
 
--- the intermediation must name this trade on this side; its other leg leads on
-abbrev pub by-intermediation : List Trade → Side → Trade → Option Intermediation → Beyond
-by-intermediation ts w t None = broken
-by-intermediation ts w t (Some x) =
-    cond (eqb (leg w x) (number t)) (cond (eqb (leg (other w) x) 0) nothing (tied-back w (x .id) (find number (leg (other w) x) ts))) broken
+-- the intermediation must be there and name trade n on this side; its other leg, if there is one, leads on
+abbrev pub by-intermediation : (Side → ℕ → Option ℕ) → Side → ℕ → Option Intermediation → Beyond
+by-intermediation ties w n None = broken
+by-intermediation ties w n (Some x) =
+    cond (eqb (leg w x) n)
+    (cond (eqb (leg (other w) x) 0) nothing (tied-back (x .id) (leg (other w) x) (ties (other w) (leg (other w) x))))
+    broken
 
-unfoldable pub beyond : List Trade → List Intermediation → Side → Trade → Beyond
-beyond ts xs w t = cond (eqb (allocation w t .tie) 0) nothing (by-intermediation ts w t (find id (allocation w t .tie) xs))
+abbrev pub by-tie : (Side → ℕ → Option ℕ) → List Intermediation → Side → ℕ → Option ℕ → Beyond
+by-tie ties xs w n None = broken
+by-tie ties xs w n (Some tie) = cond (eqb tie 0) nothing (by-intermediation ties w n (find id tie xs))
 
--- the trades met on the way from a trade over its side w and on, or none if the way is broken or goes over too many
-abbrev pub onto : Trade → Option (List Trade) → Option (List Trade)
-onto t None = None
-onto t (Some ts) = Some (t ∷ ts)
+unfoldable pub beyond : (Side → ℕ → Option ℕ) → List Intermediation → Side → ℕ → Beyond
+beyond ties xs w n = by-tie ties xs w n (ties w n)
 
-unfoldable pub way : List Trade → List Intermediation → Side → ℕ → Trade → Option (List Trade)
-way ts xs w zero t = None
-way ts xs w (suc most) t =
-    elim (beyond ts xs w t) [ nothing ↦ Some [] | a-trade u ↦ onto u (way ts xs w most u) | broken ↦ None ]
+-- The numbers of the trades met on the way from a trade over its side w and on; none if the way is broken or has not ended when `most` sides
+-- were looked at.
+abbrev pub onto : ℕ → Option (List ℕ) → Option (List ℕ)
+onto n None = None
+onto n (Some ns) = Some (n ∷ ns)
+
+abbrev pub onward : Beyond → (ℕ → Option (List ℕ)) → Option (List ℕ)
+onward nothing further = Some []
+onward (a-trade m) further = onto m (further m)
+onward broken further = None
+
+unfoldable pub way : (Side → ℕ → Option ℕ) → List Intermediation → Side → ℕ → ℕ → Option (List ℕ)
+way ties xs w zero n = None
+way ties xs w (suc most) n = onward (beyond ties xs w n) (λ m. way ties xs w most m)
 
 -- both ways together, the first trade first, if they are at most three
-abbrev pub together : Option (List Trade) → Trade → Option (List Trade) → Option (List Trade)
-together None t ahead = None
-together (Some back) t None = None
-together (Some back) t (Some ahead) =
-    let all-of : List Trade = reverse back ++ (t ∷ ahead) in cond (leb (length all-of) 3) (Some all-of) None
+abbrev pub at-most-three : List ℕ → Option (List ℕ)
+at-most-three ns = cond (leb (length ns) 3) (Some ns) None
 
--- the chain of a trade, from its first trade to its last
-unfoldable pub chain : List Trade → List Intermediation → Trade → Option (List Trade)
-chain ts xs t = together (way ts xs Seller 3 t) t (way ts xs Buyer 3 t)
+abbrev pub together : Option (List ℕ) → ℕ → Option (List ℕ) → Option (List ℕ)
+together None n ahead = None
+together (Some back) n None = None
+together (Some back) n (Some ahead) = at-most-three (reverse back ++ (n ∷ ahead))
 
+-- The chain of a trade: the numbers of its trades from the first to the last. It is none, and the chain broken, if a tie leads to no row or
+-- not back, or if the chain does not end within three trades, as a ring does not.
+unfoldable pub chain : (Side → ℕ → Option ℕ) → List Intermediation → ℕ → Option (List ℕ)
+chain ties xs n = together (way ties xs Seller 3 n) n (way ties xs Buyer 3 n)
+
+-- the first and the last trade of a chain
 abbrev pub first-of : List Trade → Trade
 first-of [] = no-trade
 first-of (t ∷ ts) = t

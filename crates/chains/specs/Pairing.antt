@@ -2,7 +2,7 @@
 use mathlib.Core.Bool.{cond}
 use mathlib.Core.List.{List, [], _∷_}
 use Prim.Native.Nat.{min, suc, zero, ℕ, _+_, _-_}
-use lib.Dec.{eqb}
+use lib.Dec.{ltb}
 use lib.ListN.{length}
 use Rattle.fields.specs.declared.trade.Entry.{Entry}
 use Rattle.fields.specs.declared.trade.Pair.{Pair}
@@ -10,7 +10,7 @@ use Rattle.chains.specs.declared.pairing.Match.{Match}
 
 -- the foremost share after n of it went
 abbrev pub less : ℕ → Entry → List Entry → List Entry
-less n e es = cond (eqb (e .quantity) n) es (record { account = e .account; quantity = e .quantity - n; client = e .client } ∷ es)
+less n e es = cond (ltb n (e .quantity)) (record { account = e .account; quantity = e .quantity - n; client = e .client } ∷ es) es
 
 -- both ends taken in order until one has none left; each step ends a share, so as many steps as shares are enough
 unfoldable pub matched : ℕ → List Entry → List Entry → List Match

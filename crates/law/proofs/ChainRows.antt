@@ -1,33 +1,35 @@
 -- The trades of a completed chain are rows, with the terms that the plain book has. Assumes nothing.
 use mathlib.Core.Bool.{Bool, true, false, cond}
 use mathlib.Core.List.{List, [], _∷_, _++_, map, reverse, reverse-append}
+use mathlib.Core.Logic.{⊎-elim}
 use mathlib.Core.Path.{_≡_, refl, sym, ap, subst, _∙_}
 use Prim.Native.Nat.{ℕ, zero, suc}
 use native.Mathlib.Omega.{arith}
 use lib.Dec.{eqb, leb}
 use lib.ListN.{length}
-use Rattle.std.proofs.shelf.Tests.{cond-both, eqb-true}
+use Rattle.std.proofs.shelf.Tests.{cases-bool, cond-both, eqb-true}
 use Rattle.std.specs.declared.option.Option.{Option}
 use Rattle.std.specs.declared.option.Option.the-variants.{Some, None}
 use Rattle.fields.specs.declared.trade.Intermediation.{Intermediation}
 use Rattle.fields.specs.declared.trade.Side.{Side}
 use Rattle.fields.specs.declared.trade.Side.the-variants.{Buyer, Seller}
-use Rattle.keyed.specs.Lists.{or-else, all}
+use Rattle.keyed.specs.Lists.{or-else, all, is-some}
 use Rattle.keyed.specs.Members.{Each}
 use Rattle.keyed.specs.Rows.{find, changed}
 use Rattle.register.specs.Meaning.{Listed}
 use Rattle.requests.specs.declared.request.Request.{Request}
 use Rattle.requests.specs.declared.request.Request.the-variants.{Capture, Cancel, Include, Remove, Confirm, Intermediate, ConfirmIntermediation, ExcludeIntermediation, Close}
 use Rattle.rows.specs.Accounts.{is-selic}
-use Rattle.rows.specs.Trades.{number, id, allocation, other, leg, both-confirmed, at-side, no-trade, confirmed}
+use Rattle.rows.specs.Trades.{number, id, other, leg, both-confirmed, at-side, no-trade, confirmed}
 use Rattle.rows.specs.declared.row.Allocation.{Allocation}
 use Rattle.rows.specs.declared.row.Trade.{Trade}
+use Rattle.chains.proofs.Found.{none-by, some-by}
 use Rattle.chains.proofs.Lists.{each-append, each-map}
-use Rattle.chains.specs.Following.{Beyond, nothing, broken, tied-back, by-intermediation, beyond, onto, way, together, chain, a-trade}
+use Rattle.chains.specs.Following.{Beyond, nothing, broken, tied-back, by-intermediation, beyond, onto, way, together, chain, a-trade, by-tie, tie-in, tie-of, onward}
 use Rattle.book.specs.Effects.{placed}
-use Rattle.book.specs.Numbering.{confirms-in, if-all-confirmed, chain-confirmed, completed}
+use Rattle.book.specs.Numbering.{confirms-in, chain-confirmed, completed}
 use Rattle.book.specs.Runs.{History, Beginning}
-use Rattle.book.specs.State.{State, trade, intermediation, chain-in}
+use Rattle.book.specs.State.{State, trade, intermediation, chain-in, chain-of}
 use Rattle.law.proofs.Events.{Kind-known}
 use Rattle.law.specs.Law.{Agrees, told}
 use Rattle.law.specs.Plain.{Told, Plain, plain, told-number, terms-of, terms-in}
@@ -68,87 +70,97 @@ found-self n ts u h = ap (λ k. find number k ts) (found-key n ts u h) ∙ h
 
 -- ── The trades of a chain are rows ──
 
-tied-found : (ts : List Trade) (w : Side) (n m : ℕ) (u : Trade) → tied-back w n (find number m ts) ≡ a-trade u → Found ts u
-tied-found ts w n m u h = go (find number m ts) refl h
-  where
-    go : (o : Option Trade) → find number m ts ≡ o → tied-back w n o ≡ a-trade u → Found ts u
-    go None e h = let z : _≡_ {A = ℕ} 0 1 = cc in absurd (omega arith)
-    go (Some v) e h = inner (eqb (allocation (other w) v .tie) n) h
-      where
-        inner : (z : Bool) → cond z (a-trade v) broken ≡ a-trade u → Found ts u
-        inner true h = let same : v ≡ u = cc in found-self m ts u (e ∙ ap Some same)
-        inner false h = let z : _≡_ {A = ℕ} 0 1 = cc in absurd (omega arith)
+abbrev Here : List Trade → ℕ → Type 0
+Here ts n = is-some (find number n ts) ≡ true
 
-joint-found : (ts : List Trade) (w : Side) (t : Trade) (o : Option Intermediation) (u : Trade) → by-intermediation ts w t o ≡ a-trade u → Found ts u
-joint-found ts w t None u h = let z : _≡_ {A = ℕ} 0 1 = cc in absurd (omega arith)
-joint-found ts w t (Some x) u h = go (eqb (leg w x) (number t)) (eqb (leg (other w) x) 0) h
+tie-here : (ts : List Trade) (w : Side) (n : ℕ) (o : Option Trade) → is-some (tie-of w o) ≡ true → is-some o ≡ true
+tie-here ts w n None h = h
+tie-here ts w n (Some t) h = refl
+
+back-here : (ts : List Trade) (id n m : ℕ) (o : Option ℕ) → tied-back id n o ≡ a-trade m → (n ≡ m) × (is-some o ≡ true)
+back-here ts id n m None h = let z : _≡_ {A = ℕ} 0 1 = cc in absurd (omega arith)
+back-here ts id n m (Some k) h = go (eqb k id) h
   where
-    go : (y z : Bool) → cond y (cond z nothing (tied-back w (x .id) (find number (leg (other w) x) ts))) broken ≡ a-trade u → Found ts u
+    go : (z : Bool) → cond z (a-trade n) broken ≡ a-trade m → (n ≡ m) × (is-some (Some k) ≡ true)
+    go true h = let same : n ≡ m = cc in (same, refl)
+    go false h = let z : _≡_ {A = ℕ} 0 1 = cc in absurd (omega arith)
+
+by-here : (ts : List Trade) (w : Side) (n m : ℕ) (o : Option Intermediation) → by-intermediation (tie-in ts) w n o ≡ a-trade m → Here ts m
+by-here ts w n m None h = let z : _≡_ {A = ℕ} 0 1 = cc in absurd (omega arith)
+by-here ts w n m (Some x) h = go (eqb (leg w x) n) (eqb (leg (other w) x) 0) h
+  where
+    go : (y z : Bool) → cond y (cond z nothing (tied-back (x .id) (leg (other w) x) (tie-in ts (other w) (leg (other w) x)))) broken ≡ a-trade m → Here ts m
     go true true h = let z : _≡_ {A = ℕ} 0 1 = cc in absurd (omega arith)
-    go true false h = tied-found ts w (x .id) (leg (other w) x) u h
+    go true false h =
+        let p = back-here ts (x .id) (leg (other w) x) m (tie-in ts (other w) (leg (other w) x)) h in
+        subst (Here ts) (p .0) (tie-here ts (other w) (leg (other w) x) (find number (leg (other w) x) ts) (p .1))
     go false z h = let n : _≡_ {A = ℕ} 0 1 = cc in absurd (omega arith)
 
-pub beyond-found : (ts : List Trade) (xs : List Intermediation) (w : Side) (t u : Trade) → beyond ts xs w t ≡ a-trade u → Found ts u
+pub beyond-here : (ts : List Trade) (xs : List Intermediation) (w : Side) (n m : ℕ) → beyond (tie-in ts) xs w n ≡ a-trade m → Here ts m
 unfolding beyond
-beyond-found ts xs w t u h = go (eqb (allocation w t .tie) 0) h
+beyond-here ts xs w n m h = go (tie-in ts w n) h
   where
-    go : (z : Bool) → cond z nothing (by-intermediation ts w t (find id (allocation w t .tie) xs)) ≡ a-trade u → Found ts u
-    go true h = let z : _≡_ {A = ℕ} 0 1 = cc in absurd (omega arith)
-    go false h = joint-found ts w t (find id (allocation w t .tie) xs) u h
+    tied : (k : ℕ) (z : Bool) → cond z nothing (by-intermediation (tie-in ts) w n (find id k xs)) ≡ a-trade m → Here ts m
+    tied k true h = let z : _≡_ {A = ℕ} 0 1 = cc in absurd (omega arith)
+    tied k false h = by-here ts w n m (find id k xs) h
+    go : (o : Option ℕ) → by-tie (tie-in ts) xs w n o ≡ a-trade m → Here ts m
+    go None h = let z : _≡_ {A = ℕ} 0 1 = cc in absurd (omega arith)
+    go (Some k) h = tied k (eqb k 0) h
 
 -- of an answer that may be none
-abbrev pub All-found : List Trade → Option (List Trade) → Type 0
-All-found ts None = Unit {0}
-All-found ts (Some us) = Each (Found ts) us
+abbrev pub All-here : List Trade → Option (List ℕ) → Type 0
+All-here ts None = Unit {0}
+All-here ts (Some ns) = Each (Here ts) ns
 
-onto-found : (ts : List Trade) (u : Trade) (o : Option (List Trade)) → Found ts u → All-found ts o → All-found ts (onto u o)
-onto-found ts u None h k = tt
-onto-found ts u (Some us) h k = (h, k)
+onto-here : (ts : List Trade) (n : ℕ) (o : Option (List ℕ)) → Here ts n → All-here ts o → All-here ts (onto n o)
+onto-here ts n None h k = tt
+onto-here ts n (Some ns) h k = (h, k)
 
-pub way-found : (ts : List Trade) (xs : List Intermediation) (w : Side) (most : ℕ) (t : Trade) → All-found ts (way ts xs w most t)
+pub way-here : (ts : List Trade) (xs : List Intermediation) (w : Side) (most n : ℕ) → All-here ts (way (tie-in ts) xs w most n)
 unfolding way
-way-found ts xs w zero t = tt
-way-found ts xs w (suc most) t = go (way-found ts xs w most) (beyond ts xs w t) refl
+way-here ts xs w zero n = tt
+way-here ts xs w (suc most) n = go (way-here ts xs w most) (beyond (tie-in ts) xs w n) refl
   where
-    go : ((u : Trade) → All-found ts (way ts xs w most u)) → (z : Beyond) → beyond ts xs w t ≡ z
-        → All-found ts (elim z [ nothing ↦ Some [] | a-trade u ↦ onto u (way ts xs w most u) | broken ↦ None ])
+    go : ((m : ℕ) → All-here ts (way (tie-in ts) xs w most m)) → (z : Beyond) → beyond (tie-in ts) xs w n ≡ z → All-here ts (onward z (λ m. way (tie-in ts) xs w most m))
     go ih nothing e = tt
-    go ih (a-trade u) e = onto-found ts u (way ts xs w most u) (beyond-found ts xs w t u e) (ih u)
+    go ih (a-trade m) e = onto-here ts m (way (tie-in ts) xs w most m) (beyond-here ts xs w n m e) (ih m)
     go ih broken e = tt
 
 each-reverse : {X : Type 0} (P : X → Type 0) (xs : List X) → Each P xs → Each P (reverse xs)
 each-reverse P [] h = tt
 each-reverse P (x ∷ xs) h = subst (Each P) (sym (reverse-append (x ∷ []) xs)) (each-append P (reverse xs) (x ∷ []) (each-reverse P xs (h .1)) (h .0, tt))
 
-together-found : (ts : List Trade) (o p : Option (List Trade)) (t : Trade) → Found ts t → All-found ts o → All-found ts p → All-found ts (together o t p)
-together-found ts None p t f h k = tt
-together-found ts (Some back) None t f h k = tt
-together-found ts (Some back) (Some ahead) t f h k =
-    cond-both (leb (length (reverse back ++ (t ∷ ahead))) 3) (Some (reverse back ++ (t ∷ ahead))) None (All-found ts)
-    (λ _. each-append (Found ts) (reverse back) (t ∷ ahead) (each-reverse (Found ts) back h) (f, k)) (λ _. tt)
+together-here : (ts : List Trade) (o p : Option (List ℕ)) (n : ℕ) → Here ts n → All-here ts o → All-here ts p → All-here ts (together o n p)
+together-here ts None p n f h k = tt
+together-here ts (Some back) None n f h k = tt
+together-here ts (Some back) (Some ahead) n f h k =
+    cond-both (leb (length (reverse back ++ (n ∷ ahead))) 3) (Some (reverse back ++ (n ∷ ahead))) None (All-here ts)
+    (λ _. each-append (Here ts) (reverse back) (n ∷ ahead) (each-reverse (Here ts) back h) (f, k)) (λ _. tt)
 
-pub chain-found : (ts : List Trade) (xs : List Intermediation) (t : Trade) → Found ts t → All-found ts (chain ts xs t)
+pub chain-here : (ts : List Trade) (xs : List Intermediation) (n : ℕ) → Here ts n → All-here ts (chain (tie-in ts) xs n)
 unfolding chain
-chain-found ts xs t f = together-found ts (way ts xs Seller 3 t) (way ts xs Buyer 3 t) t f (way-found ts xs Seller 3 t) (way-found ts xs Buyer 3 t)
+chain-here ts xs n f = together-here ts (way (tie-in ts) xs Seller 3 n) (way (tie-in ts) xs Buyer 3 n) n f (way-here ts xs Seller 3 n) (way-here ts xs Buyer 3 n)
 
-or-found : (ts : List Trade) (o : Option (List Trade)) → All-found ts o → Each (Found ts) (or-else [] o)
-or-found ts None h = tt
-or-found ts (Some us) h = h
+here-found : (s : State) (ns : List ℕ) → Each (Here (s .trades .rows)) ns → Each (Found (s .trades .rows)) (map (trade s) ns)
+here-found s [] h = tt
+here-found s (n ∷ ns) h = (found-self n (s .trades .rows) (trade s n) (some-by no-trade (find number n (s .trades .rows)) (h .0)), here-found s ns (h .1))
+
+or-found : (s : State) (o : Option (List ℕ)) → All-here (s .trades .rows) o → Each (Found (s .trades .rows)) (map (trade s) (or-else [] o))
+or-found s None h = tt
+or-found s (Some ns) h = here-found s ns h
+
+no-chain : (ts : List Trade) (xs : List Intermediation) (n : ℕ) → find number n ts ≡ None → chain (tie-in ts) xs n ≡ None
+unfolding chain way beyond
+no-chain ts xs n e = ap (λ o. together (onward (by-tie (tie-in ts) xs Seller n (tie-of Seller o)) (λ m. way (tie-in ts) xs Seller 2 m)) n (way (tie-in ts) xs Buyer 3 n)) e
 
 confirmed-found : (s : State) (n : ℕ) → Each (Found (s .trades .rows)) (chain-confirmed s (Some n))
-unfolding chain way beyond
-confirmed-found s n = go (find number n (s .trades .rows)) refl
+confirmed-found s n = cond-both (all both-confirmed (chain-of s n)) (chain-of s n) [] (Each (Found (s .trades .rows))) (λ _. found) (λ _. tt)
   where
-    ts : List Trade
-    ts = s .trades .rows
-    from : Option Trade → List Trade
-    from o = or-else [] (chain-in s (or-else no-trade o))
-    go : (o : Option Trade) → find number n (s .trades .rows) ≡ o → Each (Found (s .trades .rows)) (if-all-confirmed (or-else [] (chain-in s (or-else no-trade o))))
-    go None e = tt
-    go (Some t) e =
-        let c : List Trade = or-else [] (chain-in s t) in
-        cond-both (all both-confirmed c) c [] (Each (Found (s .trades .rows)))
-        (λ _. or-found (s .trades .rows) (chain-in s t) (chain-found (s .trades .rows) (s .intermediations .rows) t (found-self n (s .trades .rows) t e))) (λ _. tt)
+    found : Each (Found (s .trades .rows)) (chain-of s n)
+    found = ⊎-elim (λ (h : is-some (find number n (s .trades .rows)) ≡ true). or-found s (chain-in s n) (chain-here (s .trades .rows) (s .intermediations .rows) n h))
+        (λ (h : is-some (find number n (s .trades .rows)) ≡ false).
+        or-found s (chain-in s n) (subst (All-here (s .trades .rows)) (sym (no-chain (s .trades .rows) (s .intermediations .rows) n (none-by _ h))) tt))
+        (cases-bool (is-some (find number n (s .trades .rows))))
 
 one-found : (s : State) (o : Option ℕ) → Each (Found (s .trades .rows)) (chain-confirmed s o)
 one-found s None = tt

@@ -1,14 +1,13 @@
 -- In a sound book the chain that is followed is the walk.
 use mathlib.Core.Bool.{Bool, true, false, _&&_, _||_, cond}
-use mathlib.Core.List.{List, [], _∷_}
+use mathlib.Core.List.{List, [], _∷_, map}
 use mathlib.Core.Logic.{⊎-elim}
 use mathlib.Core.Path.{_≡_, refl, sym, ap, ap₂, _∙_}
 use Prim.Native.Nat.{ℕ, suc}
 use lib.Dec.{eqb}
 use lib.ListN.{length}
 use Rattle.std.proofs.shelf.Tests.{cases-eq, cases-bool, ne-eqb, eq-eqb, or-parts}
-use Rattle.std.specs.declared.option.Option.{Option}
-use Rattle.std.specs.declared.option.Option.the-variants.{Some, None}
+use Rattle.std.specs.declared.option.Option.the-variants.{Some}
 use Rattle.fields.specs.declared.trade.Intermediation.{Intermediation}
 use Rattle.fields.specs.declared.trade.Side.{Side}
 use Rattle.fields.specs.declared.trade.Side.the-variants.{Buyer, Seller}
@@ -20,7 +19,7 @@ use Rattle.chains.proofs.Found.{row-key, some-by, none-by}
 use Rattle.chains.proofs.Ties.{first-is}
 use Rattle.chains.proofs.Walk.{Not0, one, far, Walk, Half, count-from, whole-from}
 use Rattle.chains.proofs.Walks.{far-is, one-stays, one-goes, turned}
-use Rattle.chains.specs.Following.{Beyond, beyond, by-intermediation, tied-back, onto, way, together, chain, last-of, a-trade, nothing, broken}
+use Rattle.chains.specs.Following.{Beyond, beyond, by-intermediation, tied-back, onto, way, together, chain, last-of, a-trade, nothing, broken, by-tie, tie-in, tie-of, onward}
 use Rattle.law.proofs.Shown.{tr, jo}
 
 abbrev pub tie-at : List Trade → Side → ℕ → ℕ
@@ -50,84 +49,85 @@ tr-number ts n h = row-key number ts n (tr ts n) (some-by no-trade (find number 
 
 module _ (ts : List Trade) (xs : List Intermediation) (half : (w : Side) → Half (tie-at ts w) (leg-at xs w))
     (there : (w : Side) (i : ℕ) → Not0 (leg-at xs w i) → is-some (find number (leg-at xs w i) ts) ≡ true) where
+  tie-there : (w : Side) (n : ℕ) → is-some (find number n ts) ≡ true → tie-in ts w n ≡ Some (tie-at ts w n)
+  tie-there w n h = ap (tie-of w) (some-by no-trade (find number n ts) h)
+
   pub beyond-is : (w : Side) (n : ℕ) → is-some (find number n ts) ≡ true → Not0 n
-      → beyond ts xs w (tr ts n) ≡ cond (eqb (on ts xs w n) 0) nothing (a-trade (tr ts (on ts xs w n)))
+      → beyond (tie-in ts) xs w n ≡ cond (eqb (on ts xs w n) 0) nothing (a-trade (on ts xs w n))
   unfolding beyond
   beyond-is w n h z =
+      ap (by-tie (tie-in ts) xs w n) (tie-there w n h) ∙
       ⊎-elim (λ (e : tie-at ts w n ≡ 0). rw (eq-eqb _ _ e, eq-eqb (on ts xs w n) 0 (ap (leg-at xs (other w)) e ∙ half (other w) .leg-none)) refl)
       (λ (e : Not0 (tie-at ts w n)).
       let i = tie-at ts w n in
       let own : leg-at xs w i ≡ n = half w .back n e in
       let here : is-some (find id i xs) ≡ true = leg-some xs w i (λ y. z (sym own ∙ y)) in
       rw (ne-eqb _ _ e) (
-      ap (by-intermediation ts w (tr ts n)) (some-by no-intermediation (find id i xs) here)
-      ∙ by-row w n (jo xs i) (own ∙ sym (tr-number ts n h)) ∙
+      ap (by-intermediation (tie-in ts) w n) (some-by no-intermediation (find id i xs) here)
+      ∙ ap (λ b. cond b (cond (eqb (on ts xs w n) 0) nothing (tied-back (jo xs i .id) (on ts xs w n) (tie-in ts (other w) (on ts xs w n)))) broken) (eq-eqb _ _ own) ∙
       ⊎-elim (λ (d : on ts xs w n ≡ 0). rw (eq-eqb (on ts xs w n) 0 d) refl)
       (λ (d : Not0 (on ts xs w n)). rw (ne-eqb (on ts xs w n) 0 d) (
-      ap (tied-back w (jo xs i .id)) (some-by no-trade (find number (on ts xs w n) ts) (there (other w) i d))
-      ∙ back-row w (jo xs i .id) (tr ts (on ts xs w n)) (half (other w) .forth i d ∙ sym (jo-id xs i here))))
+      ap (tied-back (jo xs i .id) (on ts xs w n)) (tie-there (other w) (on ts xs w n) (there (other w) i d))
+      ∙ ap (λ b. cond b (a-trade (on ts xs w n)) broken) (eq-eqb _ _ (half (other w) .forth i d ∙ sym (jo-id xs i here)))))
       (cases-eq (on ts xs w n) 0)))
       (cases-eq (tie-at ts w n) 0)
-    where
-      by-row : (w : Side) (n : ℕ) (x : Intermediation) → leg w x ≡ number (tr ts n)
-          → by-intermediation ts w (tr ts n) (Some x) ≡ cond (eqb (leg (other w) x) 0) nothing (tied-back w (x .id) (find number (leg (other w) x) ts))
-      by-row w n x e = rw (eq-eqb _ _ e) refl
-
-      back-row : (w : Side) (i : ℕ) (u : Trade) → allocation (other w) u .tie ≡ i → tied-back w i (Some u) ≡ a-trade u
-      back-row w i u e = rw (eq-eqb _ _ e) refl
 
   way-on : (w : Side) (most n : ℕ) → is-some (find number n ts) ≡ true → Not0 n
-      → way ts xs w (suc most) (tr ts n) ≡ cond (eqb (on ts xs w n) 0) (Some []) (onto (tr ts (on ts xs w n)) (way ts xs w most (tr ts (on ts xs w n))))
+      → way (tie-in ts) xs w (suc most) n ≡ cond (eqb (on ts xs w n) 0) (Some []) (onto (on ts xs w n) (way (tie-in ts) xs w most (on ts xs w n)))
   unfolding way
   way-on w most n h z =
-      ap (λ (b : Beyond). elim b as (λ _. Option (List Trade)) [ nothing ↦ Some [] | a-trade u ↦ onto u (way ts xs w most u) | broken ↦ None ]) (beyond-is w n h z)
+      ap (λ (b : Beyond). onward b (λ m. way (tie-in ts) xs w most m)) (beyond-is w n h z)
       ∙ ⊎-elim (λ (d : eqb (on ts xs w n) 0 ≡ true). rw d refl) (λ (d : eqb (on ts xs w n) 0 ≡ false). rw d refl) (cases-bool (eqb (on ts xs w n) 0))
 
-  way-end : (w : Side) (most n : ℕ) → is-some (find number n ts) ≡ true → Not0 n → on ts xs w n ≡ 0 → way ts xs w (suc most) (tr ts n) ≡ Some []
+  way-end : (w : Side) (most n : ℕ) → is-some (find number n ts) ≡ true → Not0 n → on ts xs w n ≡ 0 → way (tie-in ts) xs w (suc most) n ≡ Some []
   way-end w most n h z e = way-on w most n h z ∙ rw (eq-eqb _ _ e) refl
 
   on-there : (w : Side) (n : ℕ) → Not0 (on ts xs w n) → is-some (find number (on ts xs w n) ts) ≡ true
   on-there w n z = there (other w) (tie-at ts w n) z
 
-  -- the trades ahead
-  abbrev pub ahead : Side → ℕ → List Trade
-  ahead w n = cond (eqb (on ts xs w n) 0) [] (tr ts (on ts xs w n) ∷ cond (eqb (on ts xs w (on ts xs w n)) 0) [] (tr ts (on ts xs w (on ts xs w n)) ∷ []))
+  -- the trades ahead, by number
+  abbrev pub ahead : Side → ℕ → List ℕ
+  ahead w n = cond (eqb (on ts xs w n) 0) [] (on ts xs w n ∷ cond (eqb (on ts xs w (on ts xs w n)) 0) [] (on ts xs w (on ts xs w n) ∷ []))
 
   pub way-is : (w : Side) (n : ℕ) → is-some (find number n ts) ≡ true → Not0 n → on ts xs w (on ts xs w (on ts xs w n)) ≡ 0
-      → way ts xs w 3 (tr ts n) ≡ Some (ahead w n)
+      → way (tie-in ts) xs w 3 n ≡ Some (ahead w n)
   way-is w n h z short =
       way-on w 2 n h z ∙
       ⊎-elim (λ (d : on ts xs w n ≡ 0). rw (eq-eqb _ _ d) refl)
       (λ (d : Not0 (on ts xs w n)). rw (ne-eqb _ _ d) (
-      ap (onto (tr ts (on ts xs w n))) (way-on w 1 (on ts xs w n) (on-there w n d) d) ∙
+      ap (onto (on ts xs w n)) (way-on w 1 (on ts xs w n) (on-there w n d) d) ∙
       ⊎-elim (λ (e : on ts xs w (on ts xs w n) ≡ 0). rw (eq-eqb _ _ e) refl)
       (λ (e : Not0 (on ts xs w (on ts xs w n))). rw (ne-eqb _ _ e) (
-      ap (λ o. onto (tr ts (on ts xs w n)) (onto (tr ts (on ts xs w (on ts xs w n))) o)) (way-end w 0 (on ts xs w (on ts xs w n)) (on-there w (on ts xs w n) e) e short)))
+      ap (λ o. onto (on ts xs w n) (onto (on ts xs w (on ts xs w n)) o)) (way-end w 0 (on ts xs w (on ts xs w n)) (on-there w (on ts xs w n) e) e short)))
       (cases-eq (on ts xs w (on ts xs w n)) 0)))
       (cases-eq (on ts xs w n) 0)
 
-  abbrev pub line : ℕ → List Trade
-  line f = tr ts f ∷ ahead Buyer f
+  -- a chain from its first trade on, and its rows
+  abbrev pub numbers-from : ℕ → List ℕ
+  numbers-from f = f ∷ ahead Buyer f
 
-  two : (x y : Trade) (a b : Bool) (u v : Trade) → together (Some []) x (Some (cond a [] (u ∷ cond b [] (v ∷ [])))) ≡ Some (x ∷ cond a [] (u ∷ cond b [] (v ∷ [])))
-  two x y true b u v = refl
-  two x y false true u v = refl
-  two x y false false u v = refl
+  abbrev pub line : ℕ → List Trade
+  line f = map (tr ts) (numbers-from f)
+
+  two : (x : ℕ) (a b : Bool) (u v : ℕ) → together (Some []) x (Some (cond a [] (u ∷ cond b [] (v ∷ [])))) ≡ Some (x ∷ cond a [] (u ∷ cond b [] (v ∷ [])))
+  two x true b u v = refl
+  two x false true u v = refl
+  two x false false u v = refl
 
   pub chain-is : Walk (on ts xs Buyer) (on ts xs Seller) → (n : ℕ) → is-some (find number n ts) ≡ true → Not0 n
-      → chain ts xs (tr ts n) ≡ Some (line (far (on ts xs Seller) n))
+      → chain (tie-in ts) xs n ≡ Some (numbers-from (far (on ts xs Seller) n))
   unfolding chain
   chain-is w n h z =
       let nx = on ts xs Buyer in
       let pv = on ts xs Seller in
-      ap₂ (λ o q. together o (tr ts n) q) (way-is Seller n h z (turned nx pv w .short n)) (way-is Buyer n h z (w .short n)) ∙
-      ⊎-elim (λ (e : pv n ≡ 0). rw (first-is nx pv w n e, eq-eqb (pv n) 0 e) (two (tr ts n) (tr ts n) (eqb (nx n) 0) (eqb (nx (nx n)) 0) (tr ts (nx n)) (tr ts (nx (nx n)))))
+      ap₂ (λ o q. together o n q) (way-is Seller n h z (turned nx pv w .short n)) (way-is Buyer n h z (w .short n)) ∙
+      ⊎-elim (λ (e : pv n ≡ 0). rw (first-is nx pv w n e, eq-eqb (pv n) 0 e) (two n (eqb (nx n) 0) (eqb (nx (nx n)) 0) (nx n) (nx (nx n))))
       (λ (e : Not0 (pv n)).
       let b : nx (pv n) ≡ n = w .back n e in
       ⊎-elim (λ (d : pv (pv n) ≡ 0).
       let f : far pv n ≡ pv n = far-is pv n ∙ ap (one pv) (one-goes pv n e) ∙ one-stays pv (pv n) d in
       let s : nx (nx n) ≡ 0 = ap (λ k. nx (nx k)) (sym b) ∙ w .short (pv n) in
-      rw (f, ne-eqb (pv n) 0 e, eq-eqb (pv (pv n)) 0 d, b, ne-eqb n 0 z, eq-eqb (nx (nx n)) 0 s) (one-back (tr ts (pv n)) (tr ts n) (eqb (nx n) 0) (tr ts (nx n))))
+      rw (f, ne-eqb (pv n) 0 e, eq-eqb (pv (pv n)) 0 d, b, ne-eqb n 0 z, eq-eqb (nx (nx n)) 0 s) (one-back (pv n) n (eqb (nx n) 0) (nx n)))
       (λ (d : Not0 (pv (pv n))).
       let c : nx (pv (pv n)) ≡ pv n = w .back (pv n) d in
       let f : far pv n ≡ pv (pv n) = far-is pv n ∙ ap (one pv) (one-goes pv n e) ∙ one-goes pv (pv n) d in
@@ -136,7 +136,7 @@ module _ (ts : List Trade) (xs : List Intermediation) (half : (w : Side) → Hal
       (cases-eq (pv (pv n)) 0))
       (cases-eq (pv n) 0)
     where
-      one-back : (x y : Trade) (a : Bool) (u : Trade) → together (Some (x ∷ [])) y (Some (cond a [] (u ∷ []))) ≡ Some (x ∷ (y ∷ cond a [] (u ∷ [])))
+      one-back : (x y : ℕ) (a : Bool) (u : ℕ) → together (Some (x ∷ [])) y (Some (cond a [] (u ∷ []))) ≡ Some (x ∷ (y ∷ cond a [] (u ∷ [])))
       one-back x y true u = refl
       one-back x y false u = refl
 
@@ -155,10 +155,10 @@ module _ (ts : List Trade) (xs : List Intermediation) (half : (w : Side) → Hal
   unfolding whole-from
   all-line p q f z q0 qk zf =
       let nx = on ts xs Buyer in
-      ap (λ b. b && all p (ahead Buyer f)) (sym (qk f zf)) ∙
+      ap (λ b. b && all p (map (tr ts) (ahead Buyer f))) (sym (qk f zf)) ∙
       ⊎-elim (λ (e : nx f ≡ 0). rw (e, z, q0) refl)
       (λ (e : Not0 (nx f)). rw (ne-eqb (nx f) 0 e) (
-      ap (λ b. q f && (b && all p (cond (eqb (nx (nx f)) 0) [] (tr ts (nx (nx f)) ∷ [])))) (sym (qk (nx f) e)) ∙
+      ap (λ b. q f && (b && all p (map (tr ts) (cond (eqb (nx (nx f)) 0) [] (nx (nx f) ∷ []))))) (sym (qk (nx f) e)) ∙
       ⊎-elim (λ (d : nx (nx f) ≡ 0). rw (d, q0) refl)
       (λ (d : Not0 (nx (nx f))). rw (ne-eqb (nx (nx f)) 0 d) (ap (λ b. q f && (q (nx f) && b)) (and-true (p (tr ts (nx (nx f)))) ∙ sym (qk (nx (nx f)) d))))
       (cases-eq (nx (nx f)) 0)))
@@ -174,12 +174,12 @@ module _ (ts : List Trade) (xs : List Intermediation) (half : (w : Side) → Hal
       × (Not0 (on ts xs Buyer f) → Not0 (on ts xs Buyer (on ts xs Buyer f)) → p (tr ts (on ts xs Buyer (on ts xs Buyer f))) ≡ false)
   none-line p f h =
       let nx = on ts xs Buyer in
-      let a = or-parts (p (tr ts f)) (any p (ahead Buyer f)) h in
-      let b : Not0 (nx f) → (p (tr ts (nx f)) || any p (cond (eqb (nx (nx f)) 0) [] (tr ts (nx (nx f)) ∷ []))) ≡ false =
+      let a = or-parts (p (tr ts f)) (any p (map (tr ts) (ahead Buyer f))) h in
+      let b : Not0 (nx f) → (p (tr ts (nx f)) || any p (map (tr ts) (cond (eqb (nx (nx f)) 0) [] (nx (nx f) ∷ [])))) ≡ false =
       λ z. rw (ne-eqb (nx f) 0 z) at (a .1) in
       (a .0,
       (λ z. or-parts _ _ (b z) .0),
-      (λ z y. or-parts (p (tr ts (nx (nx f)))) false (sym (ap (λ c. any p (cond c [] (tr ts (nx (nx f)) ∷ []))) (ne-eqb (nx (nx f)) 0 y)) ∙ or-parts _ _ (b z) .1) .0))
+      (λ z y. or-parts (p (tr ts (nx (nx f)))) false (sym (ap (λ c. any p (map (tr ts) (cond c [] (nx (nx f) ∷ [])))) (ne-eqb (nx (nx f)) 0 y)) ∙ or-parts _ _ (b z) .1) .0))
 
   pub last-line : (f : ℕ) → on ts xs Buyer 0 ≡ 0 → last-of (line f) ≡ tr ts (far (on ts xs Buyer) f)
   last-line f z =

@@ -25,7 +25,7 @@ use Rattle.chains.specs.Following.{first-of, last-of}
 use Rattle.chains.specs.Pairing.{matched, matches, given-numbers}
 use Rattle.chains.specs.declared.pairing.Match.{Match}
 use Rattle.book.specs.Numbering.{if-all-confirmed, chain-confirmed, chain-matches, entries-held, issuer, new-pairs, all-numbered, numbering, with-numbers}
-use Rattle.book.specs.State.{State, chain-of}
+use Rattle.book.specs.State.{State, chain-of, trade}
 use Rattle.law.proofs.Bridge.{re-numbered, numbered-one, marked}
 use Rattle.law.proofs.Chained.{tie-at, leg-at, line, chain-is, all-line, last-line, tr-number}
 use Rattle.law.proofs.Confirms.{leg-left, leg-right, part-kept, whole-kept}
@@ -68,7 +68,7 @@ module _ (p : State) (half : (w : Side) → Half (tie-at (p .trades .rows) w) (l
   line-in f = line (p .trades .rows) (p .intermediations .rows) half there f
 
   pub chain-of-is : (n : ℕ) → is-some (find number n (p .trades .rows)) ≡ true → Not0 n → chain-of p n ≡ line-in (first (view p) n)
-  chain-of-is n h z = ap (or-else []) (chain-is (p .trades .rows) (p .intermediations .rows) half there w n h z)
+  chain-of-is n h z = ap (λ o. map (trade p) (or-else [] o)) (chain-is (p .trades .rows) (p .intermediations .rows) half there w n h z)
 
   pub full-is : (k : ℕ) → Not0 k → full (view p) k ≡ both-confirmed (tr (p .trades .rows) k)
   unfolding full-by

@@ -110,7 +110,7 @@ module _ (b : Beginning) (h : History) (s : State) (g : Sound s) (law : Pairs b 
     f = first (view p) n
 
     abbrev us : List Trade
-    us = ahead (p .trades .rows) (p .intermediations .rows) (conf-half p n conf) (conf-there p n conf) Buyer (first (view p) n)
+    us = map (tr (p .trades .rows)) (ahead (p .trades .rows) (p .intermediations .rows) (conf-half p n conf) (conf-there p n conf) Buyer (first (view p) n))
 
     abbrev t : State
     t = numbering (conf-line p n conf) p
