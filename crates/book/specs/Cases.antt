@@ -19,6 +19,7 @@ use Rattle.book.specs.Lines.{A, C, D, Day, E, F, G, I, J, P, R, Said, T, X, Z,
 use Rattle.book.specs.Runs.{Beginning}
 use Rattle.book.specs.State.{State}
 use Rattle.book.specs.Steps.{step}
+use Rattle.book.specs.Tests.{refusal}
 
 pub record Case : Type 0 where
   pub beginning : Beginning

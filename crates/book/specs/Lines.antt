@@ -19,7 +19,7 @@ use Rattle.fields.specs.declared.trade.Side.{Side}
 use Rattle.register.specs.Meaning.{Listed}
 use Rattle.requests.specs.declared.request.Request.{Request}
 use Rattle.requests.specs.declared.request.Request.the-variants.{Cancel, Capture, Close, Confirm, ConfirmIntermediation, ExcludeIntermediation, Include, Intermediate, Remove}
-use Rattle.rows.specs.Trades.{no-entry}
+use Rattle.rows.specs.Allocations.{no-entry}
 use Rattle.book.specs.Runs.{Beginning, Call, Run, begun, ran}
 
 abbrev pub C : ℕ → ℕ → Kind → ℕ → ℕ → ℕ → ℕ → ℕ → ℕ → ℕ → Request

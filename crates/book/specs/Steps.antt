@@ -1,6 +1,5 @@
--- Steps.
-use mathlib.Core.Bool.{false, true}
-use mathlib.Core.List.{List, [], _∷_}
+-- A request: refused with everything left as it was, or accepted.
+use mathlib.Core.List.{List}
 use Rattle.std.specs.declared.option.Option.{Option}
 use Rattle.std.specs.declared.option.Option.the-variants.{None, Some}
 use Rattle.std.specs.declared.result.Result.{Result}
@@ -9,24 +8,17 @@ use Rattle.fields.specs.declared.answer.Answer.{Answer}
 use Rattle.fields.specs.declared.answer.Refusal.{Refusal}
 use Rattle.register.specs.Meaning.{Listed}
 use Rattle.requests.specs.declared.request.Request.{Request}
-use Rattle.book.specs.Answers.{reply}
-use Rattle.book.specs.Numbering.{effect}
+use Rattle.book.specs.Numbering.{effect, reply}
 use Rattle.book.specs.State.{State}
-use Rattle.book.specs.Tests.{Test, tests}
-
--- the refusal of the first test that does not pass
-abbrev pub first-refusal : List Test → Option Refusal
-first-refusal [] = None
-first-refusal (t ∷ ts) = elim (t .passes) [ true ↦ first-refusal ts | false ↦ Some (record { ground = t .ground; place = t .place }) ]
+use Rattle.book.specs.Verdicts.{verdict}
 
 pub record Outcome : Type 0 where
   pub answer : Result Answer Refusal
   pub after : State
 
--- a refusal leaves everything
 abbrev pub outcome : Option Refusal → List Listed → State → Request → Outcome
 outcome (Some f) r s q = record { answer = Err f; after = s }
 outcome None r s q = record { answer = Ok (reply r s q); after = effect r s q }
 
 unfoldable pub step : List Listed → State → Request → Outcome
-step r s q = outcome (first-refusal (tests r s q)) r s q
+step r s q = outcome (verdict r s q) r s q

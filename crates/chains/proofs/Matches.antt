@@ -13,7 +13,7 @@ use Rattle.fields.specs.declared.trade.Entry.{Entry}
 use Rattle.fields.specs.declared.trade.Pair.{Pair}
 use Rattle.keyed.specs.Lists.{those, sum}
 use Rattle.keyed.specs.Members.{Each}
-use Rattle.rows.specs.Trades.{total}
+use Rattle.rows.specs.Allocations.{total}
 use Rattle.chains.proofs.Lists.{sum-those}
 use Rattle.chains.specs.Paired.{Taken, Paired}
 use Rattle.chains.specs.Pairing.{less, matched, matches, given-numbers}

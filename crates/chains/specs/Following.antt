@@ -12,7 +12,9 @@ use Rattle.fields.specs.declared.trade.Intermediation.{Intermediation}
 use Rattle.fields.specs.declared.trade.Side.{Side}
 use Rattle.fields.specs.declared.trade.Side.the-variants.{Buyer, Seller}
 use Rattle.keyed.specs.Rows.{find}
-use Rattle.rows.specs.Trades.{allocation, id, leg, no-trade, number, other}
+use Rattle.rows.specs.Allocations.{other}
+use Rattle.rows.specs.Legs.{id, leg}
+use Rattle.rows.specs.Trades.{allocation, no-trade, number}
 use Rattle.rows.specs.declared.row.Trade.{Trade}
 
 -- All that a chain reads of the trades: the id of the intermediation that holds side w of trade n, 0 if none does, and nothing if there is no

@@ -8,7 +8,7 @@ use lib.ListN.{length}
 use Rattle.fields.specs.declared.trade.Entry.{Entry}
 use Rattle.fields.specs.declared.trade.Pair.{Pair}
 use Rattle.keyed.specs.Lists.{sum, those}
-use Rattle.rows.specs.Trades.{total}
+use Rattle.rows.specs.Allocations.{total}
 use Rattle.chains.specs.Pairing.{less}
 
 -- the entries of both ends taken in order until one has none left, each pair the lesser of what the two foremost have left

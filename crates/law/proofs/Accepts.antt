@@ -1,13 +1,13 @@
 -- Every accepted request keeps the book sound.
 use mathlib.Core.Bool.{Bool, true, false, not, _&&_, _||_, cond}
-use mathlib.Core.List.{List, [], _∷_, _++_, map}
+use mathlib.Core.List.{List, [], _∷_, map}
 use mathlib.Core.Logic.{⊎-elim}
 use mathlib.Core.Path.{_≡_, refl, sym, ap, ap₂, subst, _∙_}
 use Prim.Native.Nat.{ℕ, _+_, _≤_, _<_}
 use native.Mathlib.Omega.{arith}
-use lib.Dec.{eqb, leb}
+use lib.Dec.{eqb}
 use lib.ListN.{length}
-use Rattle.std.proofs.shelf.Tests.{cases-eq, eqb-true, eqb-false, ne-eqb, eq-eqb, leb-true, both-ways, and-parts, and-from, or-cases, not-true, false≢true}
+use Rattle.std.proofs.shelf.Tests.{cond-both, cases-eq, eqb-true, eqb-false, eq-eqb, both-ways, and-parts, and-from, or-cases, not-true, false≢true}
 use Rattle.std.specs.declared.option.Option.{Option}
 use Rattle.std.specs.declared.option.Option.the-variants.{Some, None}
 use Rattle.fields.specs.Ranges.{in-range, numbers-or-none, accounts, numbers, participants}
@@ -17,10 +17,10 @@ use Rattle.fields.specs.declared.trade.Kind.the-variants.{Selic, Deposited, Reg
 use Rattle.fields.specs.declared.trade.Side.{Side}
 use Rattle.fields.specs.declared.trade.Side.the-variants.{Buyer, Seller}
 use Rattle.fields.specs.declared.trade.Terms.{Terms}
-use Rattle.keyed.specs.Lists.{or-else, is-some, all, any}
+use Rattle.keyed.specs.Lists.{or-else, is-some, any}
 use Rattle.keyed.specs.Members.{In}
-use Rattle.keyed.specs.Rows.{Table, find, changed, removed-in, rises-above, whole}
-use Rattle.register.specs.Meaning.{Listed, tied-in}
+use Rattle.keyed.specs.Rows.{Table, find, changed, removed-in, rises-above}
+use Rattle.register.specs.Meaning.{Listed}
 use Rattle.requests.specs.declared.request.Cancellation.{Cancellation}
 use Rattle.requests.specs.declared.request.Inclusion.{Inclusion}
 use Rattle.requests.specs.declared.request.IntermediationCall.{IntermediationCall}
@@ -30,28 +30,32 @@ use Rattle.requests.specs.declared.request.Request.{Request}
 use Rattle.requests.specs.declared.request.Request.the-variants.{Capture, Cancel, Include, Remove, Confirm, Intermediate, ConfirmIntermediation, ExcludeIntermediation, Close}
 use Rattle.requests.specs.declared.request.SideCall.{SideCall}
 use Rattle.rows.specs.Accounts.{same-kind}
-use Rattle.rows.specs.InUse.{good-intermediation, good-trade, good-pair}
-use Rattle.rows.specs.Trades.{has-leg, number, id, allocation, is-cancelled, is-numbered, is-confirmed, no-intermediation, in-state, at-side, emptied, confirmed, confirmed-if, filled, numbered, captured, both-confirmed, alike, leg as leg-of}
+use Rattle.rows.specs.Allocations.{is-confirmed, emptied, confirmed, confirmed-if, filled, entries-held}
+use Rattle.rows.specs.InUse.{good-intermediation}
+use Rattle.rows.specs.Legs.{has-leg, id, no-intermediation, leg as leg-of, any-leg, both-legs}
+use Rattle.rows.specs.Trades.{number, allocation, at-side, numbered, captured, both-confirmed, alike, numbered-in}
 use Rattle.rows.specs.declared.row.Allocation.{Allocation}
+use Rattle.rows.specs.declared.row.AllocationState.{AllocationState}
 use Rattle.rows.specs.declared.row.AllocationState.the-variants.{Empty, Allocated, Confirmed}
 use Rattle.rows.specs.declared.row.KeptEntry.{KeptEntry}
 use Rattle.rows.specs.declared.row.Trade.{Trade}
 use Rattle.chains.proofs.Found.{row-key, none-by, some-by, some-not, rises-changed, rises-entered, rises-removed, none-below, all-in}
 use Rattle.chains.proofs.Walk.{put, Not0, Walk, Half, count}
 use Rattle.chains.proofs.Walks.{put-cases, put-at, member}
-use Rattle.book.specs.Effects.{excluded, cancelled, whole-entry, placed}
-use Rattle.book.specs.Numbering.{confirms-in, chain-confirmed, completed, chain-matches, entries-held, issuer, all-numbered, numbering, with-numbers, effect}
-use Rattle.book.specs.State.{kept-entry, State, trade, intermediation, chain-of, any-leg, with-intermediations, at-trade, entries-of}
-use Rattle.book.specs.Tests.{Test, test, trade-tests, side-tests, all-entry-tests, for-leg, on-side, offered-to, field-tests, whole-tables, own-tests, tests}
+use Rattle.chains.specs.Joining.{numbers-in}
+use Rattle.book.specs.Effects.{excluded, cancelled, placed, called-off, marked, excluded-by}
+use Rattle.book.specs.Entries.{whole-entry, kept-entry, entries-of, included, intermediated}
+use Rattle.book.specs.Numbering.{confirms-in, chain-confirmed, completed, chain-matches, issuer, all-numbered, numbering, with-numbers, effect}
+use Rattle.book.specs.State.{State, trade, intermediation, chain-of, with-intermediations, at-trade}
 use Rattle.law.proofs.Bridge.{as-bought, as-sold, only-side, side-view, sides-again, joined-view, excluded-view, nothing-excluded, captured-view, marked-view, voided-view}
-use Rattle.law.proofs.Chained.{tie-at, leg-at, length-line, none-line, tr-number}
+use Rattle.law.proofs.Chained.{tie-at, leg-at, length-line, none-line, chain-is, numbers-from}
 use Rattle.law.proofs.Completes.{Confirming, completed-sound, chain-of-is, line-in}
 use Rattle.law.proofs.Confirms.{leg-left, leg-right}
 use Rattle.law.proofs.Kept.{walk, sides-kept, voided-kept, captured-kept, link-kept, exclude-kept, bought-live, sold-live, nothing-sound}
 use Rattle.law.proofs.Opens.{not-num, num-buyer, num-seller, num-next-not, num-prev-not, side-alone, gone-b, gone-s, open-not, self-s, cancel-one}
-use Rattle.law.proofs.Shown.{common, tr, view, None0, both-kept}
+use Rattle.law.proofs.Passed.{Captures, Confirms, Confirms-both, Excludes, Free, Includes, Intermediates, Passed, Stands, Tables, leg-is-there}
+use Rattle.law.proofs.Shown.{common, view, None0, both-kept}
 use Rattle.law.proofs.Views.{View, sure, next, prev, first, sides, link, exclude, leg, live, Sound as Seen}
-use Rattle.fields.specs.declared.ground.Ground.the-variants as ground
 
 -- what every request keeps: what the rows show is sound, and the keys rise
 pub record Sound (s : State) : Type 0 where
@@ -66,25 +70,6 @@ Ends-hold p = (m : ℕ) → Not0 m → both-confirmed (trade p m) ≡ true → (
 -- those of a request that confirms
 abbrev pub Confirmed-hold : List Listed → State → Request → Type 0
 Confirmed-hold r s q = (m : ℕ) → confirms-in s q ≡ Some m → Ends-hold (placed r s q)
-
-abbrev pub AllPass : List Test → Type 0
-AllPass [] = Unit {0}
-AllPass (t ∷ ts) = (t .passes ≡ true) × AllPass ts
-
-pub pass-left : (ts us : List Test) → AllPass (ts ++ us) → AllPass ts
-pass-left [] us p = tt
-pass-left (t ∷ ts) us p = (p .0, pass-left ts us (p .1))
-
-pub pass-right : (ts us : List Test) → AllPass (ts ++ us) → AllPass us
-pass-right [] us p = p
-pass-right (t ∷ ts) us p = pass-right ts us (p .1)
-
-pub own-pass : (r : List Listed) (s : State) (q : Request) → AllPass (tests r s q) → (whole-tables s ≡ true) × AllPass (own-tests r s q)
-unfolding tests
-own-pass r s q p = let a = pass-right (field-tests q) (test ground.BadTables 0 (whole-tables s) ∷ own-tests r s q) p in (a .0, a .1)
-
-pub good-not0 : (n : ℕ) → in-range numbers n ≡ true → Not0 n
-good-not0 n h e = let l : 1 ≤ n = leb-true 1 n (and-parts (leb 1 n) (leb n 999999999) h .0) in absurd (omega arith)
 
 pub not0-pos : (n : ℕ) → Not0 n → 0 < n
 not0-pos n z = ⊎-elim (λ (e : n ≡ 0). absurd (z e)) (λ (e : n ≡ 0 → ⊥). omega arith) (cases-eq n 0)
@@ -144,28 +129,6 @@ some-leg x h =
     (λ (e : Not0 (x .bought)). λ y. e (sym (leg-left (x .bought) (x .sold) e) ∙ any-leg-is x ∙ y))
     (cases-eq (x .bought) 0)
 
-five-and : (a b c d e : Bool) → (a && b && c && d && e) ≡ true → (a ≡ true) × (c ≡ true)
-five-and a b c d e h =
-    let x = and-parts (a && b && c && d) e h .0 in
-    let y = and-parts (a && b && c) d x .0 in
-    let z = and-parts (a && b) c y in
-    (and-parts a b (z .0) .0, z .1)
-
-pub good-tables : (s : State) → whole-tables s ≡ true → (whole 4096 good-trade (s .trades) ≡ true) × (whole 2048 good-intermediation (s .intermediations) ≡ true)
-unfolding whole-tables
-good-tables s t =
-    five-and (whole 4096 good-trade (s .trades)) (rises-above number 0 (s .trades .rows)) (whole 2048 good-intermediation (s .intermediations)) (rises-above id 0 (s .intermediations .rows)) (whole 65536 good-pair (s .pairs)) t
-
-pub whole-rows : {R : Type 0} (limit : ℕ) (good : R → Bool) (t : Table R) → whole limit good t ≡ true → all good (t .rows) ≡ true
-unfolding whole
-whole-rows limit good t h = and-parts (leb (t .count) (t .size) && leb (t .count) limit) (all good (t .rows)) h .1
-
-pub good-intermediations : (s : State) → whole-tables s ≡ true → all good-intermediation (s .intermediations .rows) ≡ true
-good-intermediations s t = whole-rows 2048 good-intermediation (s .intermediations) (good-tables s t .1)
-
-pub good-trades : (s : State) → whole-tables s ≡ true → all good-trade (s .trades .rows) ≡ true
-good-trades s t = whole-rows 4096 good-trade (s .trades) (good-tables s t .0)
-
 last-and : (a b c d e f : Bool) → (a && b && c && d && e && f) ≡ true → f ≡ true
 last-and true true true true true f h = h
 last-and true true true true false f h = absurd (false≢true h)
@@ -173,12 +136,6 @@ last-and true true true false e f h = absurd (false≢true h)
 last-and true true false d e f h = absurd (false≢true h)
 last-and true false c d e f h = absurd (false≢true h)
 last-and false b c d e f h = absurd (false≢true h)
-
-abbrev excluded-by : Option Intermediation → ℕ → State → State
-excluded-by o n s =
-    elim o [
-      None ↦ s
-    | Some x ↦ with-intermediations (removed-in id n) (at-trade (x .sold) (at-side Seller emptied) (at-trade (x .bought) (at-side Buyer emptied) s)) ]
 
 module _ (s : State) (g : Sound s) where
   pub none0 : None0 (s .trades .rows)
@@ -201,33 +158,53 @@ module _ (s : State) (g : Sound s) where
   pub chain-at : (n : ℕ) → is-some (find number n (s .trades .rows)) ≡ true → Not0 n → chain-of s n ≡ line-at n
   chain-at n h z = chain-of-is s halves-of there-of walk-in n h z
 
-  -- a side whose tests passed
-  module _ (n : ℕ) (w : Side) (here : is-some (find number n (s .trades .rows)) ≡ true) (open-one : not (is-cancelled (trade s n .state)) ≡ true)
-      (unsure : not (is-confirmed (allocation w (trade s n) .state)) ≡ true) where
-    pub live-one : live (view s) n ≡ true
-    live-one = and-from _ _ here open-one
+  abbrev pub numbers-at : ℕ → List ℕ
+  numbers-at n = numbers-from (s .trades .rows) (s .intermediations .rows) halves-of there-of (first (view s) n)
 
-    pub num-a : (v : Side) → not (is-confirmed (allocation v (trade s n) .state)) ≡ true → view s .num (as-bought n v) ≡ false
-    num-a Buyer u = num-buyer (view s) (g .seen) n (λ _. not-true _ u)
+  pub numbers-are : (n : ℕ) → is-some (find number n (s .trades .rows)) ≡ true → Not0 n → numbers-in (s .trades .rows) (s .intermediations .rows) n ≡ numbers-at n
+  numbers-are n h z = ap (or-else []) (chain-is (s .trades .rows) (s .intermediations .rows) halves-of there-of walk-in n h z)
+
+  -- a side whose tests passed
+  module _ (caller : ℕ) (w : Side) (n : ℕ) (f : Free s caller w n) where
+    pub live-one : live (view s) n ≡ true
+    live-one = and-from _ _ (f .trade .here) (f .trade .open-still)
+
+    num-a : (v : Side) → is-confirmed (allocation v (trade s n) .state) ≡ false → view s .num (as-bought n v) ≡ false
+    num-a Buyer u = num-buyer (view s) (g .seen) n (λ _. u)
     num-a Seller u = g .seen .numbers .none-num
 
-    pub num-c : (v : Side) → not (is-confirmed (allocation v (trade s n) .state)) ≡ true → view s .num (as-sold n v) ≡ false
+    num-c : (v : Side) → is-confirmed (allocation v (trade s n) .state) ≡ false → view s .num (as-sold n v) ≡ false
     num-c Buyer u = g .seen .numbers .none-num
-    num-c Seller u = num-seller (view s) (g .seen) n (λ _. not-true _ u)
+    num-c Seller u = num-seller (view s) (g .seen) n (λ _. u)
 
-    pub weak-side : (x : _) → is-confirmed x ≡ false → Seen (sides (as-bought n w) (as-sold n w) x (view s))
-    weak-side x weak = sides-kept (view s) (g .seen) (as-bought n w) (as-sold n w) x weak (leg-case (λ k. live (view s) k ≡ true) n w live-one) (num-a w unsure) (num-c w unsure)
+    pub weak-side : (x : AllocationState) → is-confirmed x ≡ false → Seen (sides (as-bought n w) (as-sold n w) x (view s))
+    weak-side x weak = sides-kept (view s) (g .seen) (as-bought n w) (as-sold n w) x weak (leg-case (λ k. live (view s) k ≡ true) n w live-one) (num-a w (f .unsure)) (num-c w (f .unsure))
 
-  capture-sound : (r : List Listed) (q : NewTrade) → AllPass (tests r s (Capture q)) → Sound (effect r s (Capture q))
-  unfolding effect completed placed tests field-tests own-tests
+    -- confirmed in a sound book that shows the rest as it is now
+    one-side : (p : State) (v : View) → Seen v → Not0 n → v .present ≡ view s .present → v .cancelled ≡ view s .cancelled → view p ≡ sides (as-bought n w) (as-sold n w) Confirmed v → Confirming p n
+    one-side p v sound z same gone shown =
+        let alive : live v n ≡ true = ap₂ (λ (a b : ℕ → Bool). a n && not (b n)) same gone ∙ live-one in
+        record {
+          base = v;
+          sound = sound;
+          bought = as-bought n w;
+          sold = as-sold n w;
+          leg-is = side-leg-is n w z;
+          some = z;
+          bought-live = leg-case (λ k. live v k ≡ true) n w alive;
+          sold-live = sold-case (λ k. live v k ≡ true) n w alive;
+          tied = side-alone v sound n w (next v);
+          shown = shown;
+        }
+
+  capture-sound : (r : List Listed) (q : NewTrade) → Captures s q → Sound (effect r s (Capture q))
+  unfolding effect completed placed
   capture-sound r q p =
-      let z : Not0 (q .terms .number) = good-not0 (q .terms .number) (p .1 .0) in
-      let own = own-pass r s (Capture q) p .1 in
-      let none : find number (q .terms .number) (s .trades .rows) ≡ None = none-by _ (not-true _ (own .0)) in
+      let none : find number (q .terms .number) (s .trades .rows) ≡ None = none-by _ (p .absent) in
       record {
-        seen = subst Seen (sym (captured-view (q .terms) (s .trades .rows) (s .intermediations .rows) (s .pairs .rows) z none))
-            (captured-kept (view s) (g .seen) (q .terms .number) (common (q .terms)) (not-true _ (own .0)));
-        trade-keys = rises-entered number (captured (q .terms)) (s .trades .rows) 0 (g .trade-keys) (not0-pos _ z) none;
+        seen = subst Seen (sym (captured-view (q .terms) (s .trades .rows) (s .intermediations .rows) (s .pairs .rows) (p .number-is) none))
+            (captured-kept (view s) (g .seen) (q .terms .number) (common (q .terms)) (p .absent));
+        trade-keys = rises-entered number (captured (q .terms)) (s .trades .rows) 0 (g .trade-keys) (not0-pos _ (p .number-is)) none;
         intermediation-keys = g .intermediation-keys;
       }
 
@@ -235,116 +212,66 @@ module _ (s : State) (g : Sound s) where
   side-keys Buyer n d = rises-changed number (at-side Buyer d) (λ _. refl) n (s .trades .rows) 0 (g .trade-keys)
   side-keys Seller n d = rises-changed number (at-side Seller d) (λ _. refl) n (s .trades .rows) 0 (g .trade-keys)
 
-  remove-sound : (r : List Listed) (q : SideCall) → AllPass (tests r s (Remove q)) → Sound (effect r s (Remove q))
-  unfolding effect completed placed tests field-tests own-tests
-  remove-sound r q p =
-      let own = own-pass r s (Remove q) p .1 in
-      let sd = own .1 .1 .1 .1 in
-      record {
-        seen = subst Seen (sym (side-view (q .side) (q .trade) emptied (s .trades .rows) (s .intermediations .rows) (s .pairs .rows) (λ _. own .0) none0 Empty refl (sym (eqb-true _ _ (sd .1 .1 .0)))))
-            (weak-side (q .trade) (q .side) (own .0) (own .1 .0) (sd .1 .0) Empty refl);
-        trade-keys = side-keys (q .side) (q .trade) emptied;
-        intermediation-keys = g .intermediation-keys;
-      }
+  remove-sound : (r : List Listed) (q : SideCall) → Free s (q .participant) (q .side) (q .trade) → Sound (effect r s (Remove q))
+  unfolding effect completed placed
+  remove-sound r q p = record {
+    seen = subst Seen (sym (side-view (q .side) (q .trade) emptied (s .trades .rows) (s .intermediations .rows) (s .pairs .rows) (λ _. p .trade .here) none0 Empty refl (sym (p .untied))))
+        (weak-side (q .participant) (q .side) (q .trade) p Empty refl);
+    trade-keys = side-keys (q .side) (q .trade) emptied;
+    intermediation-keys = g .intermediation-keys;
+  }
 
-  pub confirm-conf : (r : List Listed) (q : SideCall) → AllPass (tests r s (Confirm q)) → Confirming (placed r s (Confirm q)) (q .trade)
-  unfolding effect completed placed tests field-tests own-tests
+  pub confirm-conf : (r : List Listed) (q : SideCall) → Confirms r s q → Confirming (placed r s (Confirm q)) (q .trade)
+  unfolding placed
   confirm-conf r q p =
-      let own = own-pass r s (Confirm q) p .1 in
-      let sd = own .1 .1 .1 .1 in
-      let nt = sd .1 .1 .1 .1 .1 in
-      let z : Not0 (q .trade) = good-not0 (q .trade) (p .1 .1 .0) in
-      let alive = live-one (q .trade) (q .side) (own .0) (own .1 .0) (sd .1 .0) in
-      record {
-        base = view s;
-        sound = g .seen;
-        bought = as-bought (q .trade) (q .side);
-        sold = as-sold (q .trade) (q .side);
-        leg-is = side-leg-is (q .trade) (q .side) z;
-        some = z;
-        bought-live = leg-case (λ k. live (view s) k ≡ true) (q .trade) (q .side) alive;
-        sold-live = sold-case (λ k. live (view s) k ≡ true) (q .trade) (q .side) alive;
-        tied = side-alone (view s) (g .seen) (q .trade) (q .side) (next (view s));
-        shown = side-view (q .side) (q .trade) confirmed (s .trades .rows) (s .intermediations .rows) (s .pairs .rows) (λ _. own .0) none0 Confirmed refl refl;
-      }
+      one-side (q .participant) (q .side) (q .trade) (p .free) (placed r s (Confirm q)) (view s) (g .seen) (p .number-is) refl refl
+      (side-view (q .side) (q .trade) confirmed (s .trades .rows) (s .intermediations .rows) (s .pairs .rows) (λ _. p .free .trade .here) none0 Confirmed refl refl)
 
-  confirm-sound : (r : List Listed) (q : SideCall) → AllPass (tests r s (Confirm q)) → Confirmed-hold r s (Confirm q) → Sound (effect r s (Confirm q))
-  unfolding effect completed placed tests field-tests own-tests
+  confirm-sound : (r : List Listed) (q : SideCall) → Confirms r s q → Confirmed-hold r s (Confirm q) → Sound (effect r s (Confirm q))
+  unfolding effect completed placed
   confirm-sound r q p held =
-      let own = own-pass r s (Confirm q) p .1 in
-      let sd = own .1 .1 .1 .1 in
-      let nt = sd .1 .1 .1 .1 .1 in
-      let z : Not0 (q .trade) = good-not0 (q .trade) (p .1 .1 .0) in
-      let alive = live-one (q .trade) (q .side) (own .0) (own .1 .0) (sd .1 .0) in
       with-keys _ (placed r s (Confirm q))
-      (completed-sound (placed r s (Confirm q)) (q .trade) (confirm-conf r q p) (held (q .trade) refl) (leb-true _ _ (nt .0)))
+      (completed-sound (placed r s (Confirm q)) (q .trade) (confirm-conf r q p) (held (q .trade) refl) (p .enough))
       (side-keys (q .side) (q .trade) confirmed) (g .intermediation-keys)
 
-  pub include-conf : (r : List Listed) (q : Inclusion) → AllPass (tests r s (Include q)) → q .now ≡ true → Confirming (placed r s (Include q)) (q .trade)
-  unfolding effect completed placed tests field-tests own-tests
-  include-conf r q p now =
-      let own = own-pass r s (Include q) p .1 in
-      let sd = own .1 .1 .1 .1 in
+  -- what an inclusion shows, and that it is sound before it is confirmed
+  include-shown : (r : List Listed) (q : Inclusion) → Includes r s q
+      → view (placed r s (Include q)) ≡ sides (as-bought (q .trade) (q .side)) (as-sold (q .trade) (q .side)) (cond (q .now) Confirmed Allocated) (view s)
+  unfolding placed
+  include-shown r q p =
       let es = map (kept-entry r) (entries-of q) in
-      let rest = pass-right (all-entry-tests r (s .day) (q .participant) (q .side) (trade s (q .trade)) 1 (entries-of q)) _ (sd .1 .1 .1) in
-      let nt = rest .1 .1 .1 in
-      let n = q .trade in
-      let w = q .side in
-      let z : Not0 n = good-not0 n (p .1 .1 .0) in
-      let alive = live-one n w (own .0) (own .1 .0) (sd .1 .0) in
-      let s1 : Seen (sides (as-bought n w) (as-sold n w) Allocated (view s)) = weak-side n w (own .0) (own .1 .0) (sd .1 .0) Allocated refl in
-      let e : view (placed r s (Include q)) ≡ sides (as-bought n w) (as-sold n w) (cond (q .now) Confirmed Allocated) (view s) =
-      side-view w n (λ d. confirmed-if (q .now) (filled es 0 d)) (s .trades .rows) (s .intermediations .rows) (s .pairs .rows) (λ _. own .0) none0
-      (cond (q .now) Confirmed Allocated) (filled-state (q .now) es 0 (allocation w (trade s n))) (filled-tie (q .now) es 0 (allocation w (trade s n)) ∙ sym (eqb-true _ _ (sd .1 .1 .0))) in
-      record {
-        base = sides (as-bought n w) (as-sold n w) Allocated (view s);
-        sound = s1;
-        bought = as-bought n w;
-        sold = as-sold n w;
-        leg-is = side-leg-is n w z;
-        some = z;
-        bought-live = leg-case (λ k. live (view s) k ≡ true) n w alive;
-        sold-live = sold-case (λ k. live (view s) k ≡ true) n w alive;
-        tied = side-alone (view s) (g .seen) n w (next (view s));
-        shown = e ∙ ap (λ b. sides (as-bought n w) (as-sold n w) (cond b Confirmed Allocated) (view s)) now ∙ sym (sides-again (as-bought n w) (as-sold n w) Confirmed Allocated (view s));
-      }
+      side-view (q .side) (q .trade) (included r q) (s .trades .rows) (s .intermediations .rows) (s .pairs .rows) (λ _. p .free .trade .here) none0
+      (cond (q .now) Confirmed Allocated) (filled-state (q .now) es 0 (allocation (q .side) (trade s (q .trade))))
+      (filled-tie (q .now) es 0 (allocation (q .side) (trade s (q .trade))) ∙ sym (p .free .untied))
 
-  include-sound : (r : List Listed) (q : Inclusion) → AllPass (tests r s (Include q)) → Confirmed-hold r s (Include q) → Sound (effect r s (Include q))
-  unfolding effect completed placed tests field-tests own-tests
+  pub include-conf : (r : List Listed) (q : Inclusion) → Includes r s q → q .now ≡ true → Confirming (placed r s (Include q)) (q .trade)
+  include-conf r q p now =
+      let a = as-bought (q .trade) (q .side) in
+      let c = as-sold (q .trade) (q .side) in
+      one-side (q .participant) (q .side) (q .trade) (p .free) (placed r s (Include q)) (sides a c Allocated (view s)) (weak-side (q .participant) (q .side) (q .trade) (p .free) Allocated refl) (p .number-is) refl refl
+      (include-shown r q p ∙ ap (λ b. sides a c (cond b Confirmed Allocated) (view s)) now ∙ sym (sides-again a c Confirmed Allocated (view s)))
+
+  include-sound : (r : List Listed) (q : Inclusion) → Includes r s q → Confirmed-hold r s (Include q) → Sound (effect r s (Include q))
+  unfolding effect completed placed
   include-sound r q p held =
-      let own = own-pass r s (Include q) p .1 in
-      let sd = own .1 .1 .1 .1 in
-      let es = map (kept-entry r) (entries-of q) in
-      let rest = pass-right (all-entry-tests r (s .day) (q .participant) (q .side) (trade s (q .trade)) 1 (entries-of q)) _ (sd .1 .1 .1) in
-      let nt = rest .1 .1 .1 in
-      let n = q .trade in
-      let w = q .side in
-      let z : Not0 n = good-not0 n (p .1 .1 .0) in
-      let alive = live-one n w (own .0) (own .1 .0) (sd .1 .0) in
-      let s1 : Seen (sides (as-bought n w) (as-sold n w) Allocated (view s)) = weak-side n w (own .0) (own .1 .0) (sd .1 .0) Allocated refl in
-      let e : view (placed r s (Include q)) ≡ sides (as-bought n w) (as-sold n w) (cond (q .now) Confirmed Allocated) (view s) =
-      side-view w n (λ d. confirmed-if (q .now) (filled es 0 d)) (s .trades .rows) (s .intermediations .rows) (s .pairs .rows) (λ _. own .0) none0
-      (cond (q .now) Confirmed Allocated) (filled-state (q .now) es 0 (allocation w (trade s n))) (filled-tie (q .now) es 0 (allocation w (trade s n)) ∙ sym (eqb-true _ _ (sd .1 .1 .0))) in
       with-keys _ (placed r s (Include q))
-      (finish (placed r s (Include q)) n (q .now)
+      (finish (placed r s (Include q)) (q .trade) (q .now)
       (λ now. include-conf r q p now)
-      (λ now. subst Seen (sym (e ∙ ap (λ b. sides (as-bought n w) (as-sold n w) (cond b Confirmed Allocated) (view s)) now)) s1)
-      (λ now. held n (ap (λ b. cond b (Some n) None) now)) (leb-true _ _ (nt .0)))
-      (side-keys w n (λ d. confirmed-if (q .now) (filled es 0 d))) (g .intermediation-keys)
+      (λ now. subst Seen (sym (include-shown r q p ∙ ap (λ b. sides (as-bought (q .trade) (q .side)) (as-sold (q .trade) (q .side)) (cond b Confirmed Allocated) (view s)) now)) (weak-side (q .participant) (q .side) (q .trade) (p .free) Allocated refl))
+      (λ now. held (q .trade) (ap (λ b. cond b (Some (q .trade)) None) now)) (p .enough))
+      (side-keys (q .side) (q .trade) (included r q)) (g .intermediation-keys)
 
   -- a row of the intermediations that is there has a leg
-  pub legged : (i : ℕ) → whole-tables s ≡ true → is-some (find id i (s .intermediations .rows)) ≡ true → Not0 (any-leg (intermediation s i))
+  pub legged : (i : ℕ) → Tables s → is-some (find id i (s .intermediations .rows)) ≡ true → Not0 (any-leg (intermediation s i))
   legged i t h =
       let x = intermediation s i in
       let found : In x (s .intermediations .rows) = row-key id (s .intermediations .rows) i x (some-by no-intermediation (find id i (s .intermediations .rows)) h) .1 in
-      let good : good-intermediation x ≡ true = all-in good-intermediation (s .intermediations .rows) x (good-intermediations s t) found in
+      let good : good-intermediation x ≡ true = all-in good-intermediation (s .intermediations .rows) x (t .intermediations) found in
       some-leg x (last-and (in-range numbers (x .id)) (in-range participants (x .participant)) (in-range accounts (x .account)) (in-range numbers-or-none (x .bought)) (in-range numbers-or-none (x .sold)) (has-leg Buyer x || has-leg Seller x) good)
 
-  pub confirm-intermediation-conf : (r : List Listed) (q : IntermediationCall) → AllPass (tests r s (ConfirmIntermediation q)) → Confirming (placed r s (ConfirmIntermediation q)) (any-leg (intermediation s (q .id)))
-  unfolding effect completed placed tests field-tests own-tests
-  confirm-intermediation-conf r q p =
-      let own = own-pass r s (ConfirmIntermediation q) p in
-      let nt = own .1 .1 .1 .1 .1 .1 .1 in
+  pub confirm-intermediation-conf : (r : List Listed) (q : IntermediationCall) → Tables s → Confirms-both r s q → Confirming (placed r s (ConfirmIntermediation q)) (any-leg (intermediation s (q .id)))
+  unfolding placed
+  confirm-intermediation-conf r q t p =
       let x = intermediation s (q .id) in
       let v = view s in
       record {
@@ -353,7 +280,7 @@ module _ (s : State) (g : Sound s) where
         bought = x .bought;
         sold = x .sold;
         leg-is = any-leg-is x;
-        some = legged (q .id) (own .0) (own .1 .0);
+        some = legged (q .id) t (p .here);
         bought-live = bought-live v (g .seen) (q .id);
         sold-live = sold-live v (g .seen) (q .id);
         tied = λ z _. ap (v .sold) (g .seen .buying .forth (q .id) z);
@@ -362,15 +289,12 @@ module _ (s : State) (g : Sound s) where
             Confirmed (λ _. refl) (λ _. refl) (λ _. refl) (λ _. refl);
       }
 
-  confirm-intermediation-sound : (r : List Listed) (q : IntermediationCall) → AllPass (tests r s (ConfirmIntermediation q)) → Confirmed-hold r s (ConfirmIntermediation q) → Sound (effect r s (ConfirmIntermediation q))
-  unfolding effect completed placed tests field-tests own-tests
-  confirm-intermediation-sound r q p held =
-      let own = own-pass r s (ConfirmIntermediation q) p in
-      let nt = own .1 .1 .1 .1 .1 .1 .1 in
+  confirm-intermediation-sound : (r : List Listed) (q : IntermediationCall) → Tables s → Confirms-both r s q → Confirmed-hold r s (ConfirmIntermediation q) → Sound (effect r s (ConfirmIntermediation q))
+  unfolding effect completed placed
+  confirm-intermediation-sound r q t p held =
       let x = intermediation s (q .id) in
-      let v = view s in
       with-keys _ (placed r s (ConfirmIntermediation q))
-      (completed-sound (placed r s (ConfirmIntermediation q)) (any-leg x) (confirm-intermediation-conf r q p) (held (any-leg x) refl) (leb-true _ _ (nt .0)))
+      (completed-sound (placed r s (ConfirmIntermediation q)) (any-leg x) (confirm-intermediation-conf r q t p) (held (any-leg x) refl) (p .enough))
       (rises-changed number (at-side Seller confirmed) (λ _. refl) (x .sold) _ 0 (side-keys Buyer (x .bought) confirmed)) (g .intermediation-keys)
 
   -- the exclusion of one, or of none
@@ -396,42 +320,33 @@ module _ (s : State) (g : Sound s) where
             intermediation-keys = rises-removed id i (s .intermediations .rows) 0 (g .intermediation-keys);
           }))
 
-  exclude-sound : (r : List Listed) (q : IntermediationCall) → AllPass (tests r s (ExcludeIntermediation q)) → Sound (effect r s (ExcludeIntermediation q))
-  unfolding effect completed placed tests field-tests own-tests
-  exclude-sound r q p =
-      let own = own-pass r s (ExcludeIntermediation q) p in
+  -- the legs of an intermediation that may be excluded are not numbered
+  pub exclude-open : (q : IntermediationCall) → Tables s → Excludes s q → (view s .num (intermediation s (q .id) .bought) ≡ false) × (view s .num (intermediation s (q .id) .sold) ≡ false)
+  exclude-open q t p =
       let v = view s in
       let x = intermediation s (q .id) in
       let n = any-leg x in
-      let n-is : Not0 n = legged (q .id) (own .0) (own .1 .0) in
+      let n-is : Not0 n = legged (q .id) t (p .here) in
+      let left : Not0 (x .bought) → x .bought ≡ n = λ e. sym (leg-left (x .bought) (x .sold) e) ∙ any-leg-is x in
+      let right : x .bought ≡ 0 → x .sold ≡ n = λ e. sym (leg-right (x .bought) (x .sold) e) ∙ any-leg-is x in
       let n-here : is-some (find number n (s .trades .rows)) ≡ true =
-      ⊎-elim (λ (e : x .bought ≡ 0).
-      let d : x .sold ≡ n = sym (leg-right (x .bought) (x .sold) e) ∙ any-leg-is x in
-      subst (λ k. is-some (find number k (s .trades .rows)) ≡ true) d (there-of Seller (q .id) (λ y. n-is (sym d ∙ y))))
-      (λ (e : Not0 (x .bought)).
-      subst (λ k. is-some (find number k (s .trades .rows)) ≡ true) (sym (leg-left (x .bought) (x .sold) e) ∙ any-leg-is x) (there-of Buyer (q .id) e))
+      ⊎-elim (λ (e : x .bought ≡ 0). subst (λ k. is-some (find number k (s .trades .rows)) ≡ true) (right e) (there-of Seller (q .id) (λ y. n-is (sym (right e) ∙ y))))
+      (λ (e : Not0 (x .bought)). subst (λ k. is-some (find number k (s .trades .rows)) ≡ true) (left e) (there-of Buyer (q .id) e))
       (cases-eq (x .bought) 0) in
-      let none : any (λ t. is-numbered (t .state)) (line-at n) ≡ false =
-      ap (any (λ t. is-numbered (t .state))) (sym (chain-at n n-here n-is)) ∙ not-true _ (own .1 .1 .1 .1 .1 .0) in
-      let parts = none-line (s .trades .rows) (s .intermediations .rows) halves-of there-of (λ t. is-numbered (t .state)) (first v n) none in
+      let parts = none-line (s .trades .rows) (s .intermediations .rows) halves-of there-of (numbered-in (s .trades .rows)) (first v n)
+      (ap (any (numbered-in (s .trades .rows))) (sym (numbers-are n n-here n-is)) ∙ p .unnumbered) in
       let nn : v .num n ≡ false = member (next v) (prev v) walk-in (λ k. v .num k ≡ false) n (parts .0)
       (not-num v (g .seen) _ (λ z e. both-ways _ (parts .1 z) e))
       (not-num v (g .seen) _ (λ z e. both-ways _ (parts .2 (λ y. z (ap (next v) y ∙ walk-in .next-none)) z) e)) in
-      excluded-is (q .id) (
-      ⊎-elim (λ (e : x .bought ≡ 0).
-      exclude-kept v (g .seen) (q .id) (ap (v .num) e ∙ g .seen .numbers .none-num) (ap (v .num) (sym (leg-right (x .bought) (x .sold) e) ∙ any-leg-is x) ∙ nn))
+      ⊎-elim (λ (e : x .bought ≡ 0). (ap (v .num) e ∙ g .seen .numbers .none-num, ap (v .num) (right e) ∙ nn))
       (λ (e : Not0 (x .bought)).
-      let nb : v .num (x .bought) ≡ false = ap (v .num) (sym (leg-left (x .bought) (x .sold) e) ∙ any-leg-is x) ∙ nn in
-      exclude-kept v (g .seen) (q .id) nb (ap (λ i. v .num (v .sold i)) (sym (g .seen .buying .forth (q .id) e)) ∙ num-next-not v (g .seen) (x .bought) nb))
-      (cases-eq (x .bought) 0)) .1
+      let nb : v .num (x .bought) ≡ false = ap (v .num) (left e) ∙ nn in
+      (nb, ap (λ i. v .num (v .sold i)) (sym (g .seen .buying .forth (q .id) e)) ∙ num-next-not v (g .seen) (x .bought) nb))
+      (cases-eq (x .bought) 0)
 
-  -- legs of a joining
-  pub for-leg-pass : (w : Side) (x : Intermediation) (ts : List Test) → AllPass (for-leg w x ts) → Not0 (leg-of w x) → AllPass ts
-  for-leg-pass w x ts p z = rw (ne-eqb _ _ z) at p
-
-  or-then : (a b : Bool) → (not a || b) ≡ true → a ≡ true → b ≡ true
-  or-then true b h e = h
-  or-then false b h e = absurd (false≢true e)
+  exclude-sound : (r : List Listed) (q : IntermediationCall) → Tables s → Excludes s q → Sound (effect r s (ExcludeIntermediation q))
+  unfolding effect completed placed
+  exclude-sound r q t p = let o = exclude-open q t p in excluded-is (q .id) (exclude-kept (view s) (g .seen) (q .id) (o .0) (o .1)) .1
 
   same-kinds : (k l : Kind) → same-kind k l ≡ true → k ≡ l
   same-kinds Selic Selic h = refl
@@ -452,143 +367,95 @@ module _ (s : State) (g : Sound s) where
       λ i. record { kind = same-kinds (t .kind) (u .kind) (c .0) i; asset = eqb-true _ _ (c .1) i; quantity = eqb-true _ _ (b .1) i; settlement = eqb-true _ _ (a .1) i }
 
   -- a trade that is not in the chain of another has another first trade
-  apart-chains : (a c : ℕ) → is-some (find number a (s .trades .rows)) ≡ true → is-some (find number c (s .trades .rows)) ≡ true → Not0 a → Not0 c
-      → any (λ t. eqb (number t) c) (chain-of s a) ≡ false → first (view s) a ≡ first (view s) c → ⊥
-  apart-chains a c ha hc za zc h e =
+  apart-chains : (a c : ℕ) → is-some (find number a (s .trades .rows)) ≡ true → Not0 a → Not0 c
+      → any (λ n. eqb n c) (numbers-in (s .trades .rows) (s .intermediations .rows) a) ≡ false → first (view s) a ≡ first (view s) c → ⊥
+  apart-chains a c ha za zc h e =
       let v = view s in
       let f = first v a in
-      let parts = none-line (s .trades .rows) (s .intermediations .rows) halves-of there-of (λ t. eqb (number t) c) f (ap (any (λ t. eqb (number t) c)) (sym (chain-at a ha za)) ∙ h) in
-      let hit : (k : ℕ) → k ≡ c → eqb (number (tr (s .trades .rows) k)) c ≡ true = λ k d. eq-eqb _ _ (ap (λ j. number (tr (s .trades .rows) j)) d ∙ tr-number (s .trades .rows) c hc) in
+      let parts = none-line (s .trades .rows) (s .intermediations .rows) halves-of there-of (λ n. eqb n c) f (ap (any (λ n. eqb n c)) (sym (numbers-are a ha za)) ∙ h) in
       member (next v) (prev v) walk-in (λ k. k ≡ c → ⊥) c
-      (λ d. both-ways _ (parts .0) (hit f (e ∙ d)))
-      (λ d. let d2 : next v f ≡ c = ap (next v) e ∙ d in both-ways _ (parts .1 (λ y. zc (sym d2 ∙ y))) (hit (next v f) d2))
+      (λ d. both-ways _ (parts .0) (eq-eqb _ _ (e ∙ d)))
+      (λ d. let d2 : next v f ≡ c = ap (next v) e ∙ d in both-ways _ (parts .1 (λ y. zc (sym d2 ∙ y))) (eq-eqb _ _ d2))
       (λ d. let d2 : next v (next v f) ≡ c = ap (λ k. next v (next v k)) e ∙ d in
-      both-ways _ (parts .2 (λ y. zc (sym d2 ∙ ap (next v) y ∙ walk-in .next-none)) (λ y. zc (sym d2 ∙ y))) (hit (next v (next v f)) d2))
+      both-ways _ (parts .2 (λ y. zc (sym d2 ∙ ap (next v) y ∙ walk-in .next-none)) (λ y. zc (sym d2 ∙ y))) (eq-eqb _ _ d2))
       refl
 
-  length-chain : (a : ℕ) → is-some (find number a (s .trades .rows)) ≡ true → Not0 a → length (chain-of s a) ≡ count (next (view s)) (prev (view s)) a
-  length-chain a ha za = ap length (chain-at a ha za) ∙ length-line (s .trades .rows) (s .intermediations .rows) halves-of there-of (first (view s) a) (walk-in .next-none)
+  length-chain : (a : ℕ) → is-some (find number a (s .trades .rows)) ≡ true → Not0 a → length (numbers-in (s .trades .rows) (s .intermediations .rows) a) ≡ count (next (view s)) (prev (view s)) a
+  length-chain a ha za = ap length (numbers-are a ha za) ∙ length-line (s .trades .rows) (s .intermediations .rows) halves-of there-of (first (view s) a) (walk-in .next-none)
 
-  pub join-conf : (r : List Listed) (q : NewIntermediation) → AllPass (tests r s (Intermediate q)) → q .now ≡ true → Confirming (placed r s (Intermediate q)) (any-leg (q .intermediation))
-  unfolding effect completed placed tests field-tests own-tests
-  join-conf r q p now =
-      let own = own-pass r s (Intermediate q) p .1 in
-      let x : Intermediation = q .intermediation in
-      let a = x .bought in
-      let c = x .sold in
-      let v = view s in
-      let ts = s .trades .rows in
-      let la = trade-tests s 1 (q .minute) (x .bought) ++ side-tests s 1 (x .participant) Buyer (x .bought) in
-      let lc = trade-tests s 2 (q .minute) (x .sold) ++ side-tests s 2 (x .participant) Seller (x .sold) in
-      let legs-pass = pass-left (for-leg Buyer x la ++ for-leg Seller x lc) _ (own .1 .1) in
-      let pa : Not0 a → AllPass la = for-leg-pass Buyer x la (pass-left (for-leg Buyer x la) (for-leg Seller x lc) legs-pass) in
-      let pc : Not0 c → AllPass lc = for-leg-pass Seller x lc (pass-right (for-leg Buyer x la) (for-leg Seller x lc) legs-pass) in
-      let rest = pass-right (for-leg Buyer x la ++ for-leg Seller x lc) _ (own .1 .1) in
-      let nt = pass-right (for-leg Buyer x (test ground.AccountUntied 1 (tied-in r (x .account) (offered-to (x .participant) Buyer (trade s (x .bought)))) ∷ [])
-      ++ for-leg Seller x (test ground.AccountUntied 2 (tied-in r (x .account) (offered-to (x .participant) Seller (trade s (x .sold)))) ∷ [])
-      ++ for-leg Buyer x (test ground.AccountOpposite 1 (not (on-side (λ e. e .account) (x .account) (trade s (x .bought) .seller))) ∷ [])
-      ++ for-leg Seller x (test ground.AccountOpposite 2 (not (on-side (λ e. e .account) (x .account) (trade s (x .sold) .buyer))) ∷ [])) _ (rest .1 .1 .1 .1 .1) in
-      let i-is : Not0 (x .id) = good-not0 (x .id) (p .1 .1 .0) in
-      let none : find id (x .id) (s .intermediations .rows) ≡ None = none-by _ (not-true _ (own .0)) in
-      let here-a : Not0 a → live v a ≡ true = λ z. and-from _ _ (pa z .0) (pa z .1 .0) in
-      let here-c : Not0 c → live v c ≡ true = λ z. and-from _ _ (pc z .0) (pc z .1 .0) in
-      let u : View = sides a c Allocated v in
-      let s1 : Seen u = sides-kept v (g .seen) a c Allocated refl here-a
-      (num-buyer v (g .seen) a (λ z. not-true _ (pa z .1 .1 .1 .1 .1 .0))) (num-seller v (g .seen) c (λ z. not-true _ (pc z .1 .1 .1 .1 .1 .0))) in
-      let untied-a : v .buys a ≡ 0 = ⊎-elim (λ (z : a ≡ 0). ap (v .buys) z ∙ g .seen .buying .tie-none)
-      (λ (z : Not0 a). eqb-true _ _ (pa z .1 .1 .1 .1 .1 .1 .0)) (cases-eq a 0) in
-      let untied-c : v .sells c ≡ 0 = ⊎-elim (λ (z : c ≡ 0). ap (v .sells) z ∙ g .seen .selling .tie-none)
-      (λ (z : Not0 c). eqb-true _ _ (pc z .1 .1 .1 .1 .1 .1 .0)) (cases-eq c 0) in
-      let both : Not0 a → Not0 c → (has-leg Buyer x && has-leg Seller x) ≡ true = λ z y. and-from _ _ (ap not (ne-eqb _ _ z)) (ap not (ne-eqb _ _ y)) in
-      let long : Not0 a → Not0 c → (any (λ t. eqb (number t) c) (chain-of s a) ≡ false) × (length (chain-of s a) + length (chain-of s c) ≤ 3) = λ z y.
-      let k = and-parts (not (any (λ t. eqb (number t) c) (chain-of s a))) (leb (length (chain-of s a) + length (chain-of s c)) 3) (or-then _ _ (rest .1 .0) (both z y)) in
-      (not-true _ (k .0), leb-true _ _ (k .1)) in
-      let s2 : Seen (link (x .id) a c u) = link-kept u s1 (x .id) a c i-is (ap (λ o. or-else no-intermediation o .bought) none) (ap (λ o. or-else no-intermediation o .sold) none) untied-a untied-c
-      (λ z. ap sure (put-at a Allocated (v .buyer) z)) (λ z. ap sure (put-at c Allocated (v .seller) z)) here-a here-c
-      (λ z y. alike-common (trade s a .terms) (trade s c .terms) (or-then _ _ (rest .0) (both z y)))
-      (λ z y. apart-chains a c (pa z .0) (pc y .0) z y (long z y .0))
-      (λ z y. subst (λ k. k ≤ 3) (ap₂ (λ i j. i + j) (length-chain a (pa z .0) z) (length-chain c (pc y .0) y)) (long z y .1)) in
-      let fb : Trade → Trade = λ t. at-side Buyer (λ d. confirmed-if (q .now) (filled (kept-entry r (whole-entry (x .account) t) ∷ []) (x .id) d)) t in
-      let fs : Trade → Trade = λ t. at-side Seller (λ d. confirmed-if (q .now) (filled (kept-entry r (whole-entry (x .account) t) ∷ []) (x .id) d)) t in
-      let e : view (placed r s (Intermediate q)) ≡ link (x .id) a c (sides a c (cond (q .now) Confirmed Allocated) v) =
-      joined-view x fb fs ts (s .intermediations .rows) (s .pairs .rows)
-      (only-side Buyer (λ t d. confirmed-if (q .now) (filled (kept-entry r (whole-entry (x .account) t) ∷ []) (x .id) d)))
-      (only-side Seller (λ t d. confirmed-if (q .now) (filled (kept-entry r (whole-entry (x .account) t) ∷ []) (x .id) d)))
-      (λ z. pa z .0) (λ z. pc z .0) none0 i-is none (cond (q .now) Confirmed Allocated)
-      (λ t. filled-state (q .now) (kept-entry r (whole-entry (x .account) t) ∷ []) (x .id) (t .buyer)) (λ t. filled-state (q .now) (kept-entry r (whole-entry (x .account) t) ∷ []) (x .id) (t .seller))
-      (λ t. filled-tie (q .now) (kept-entry r (whole-entry (x .account) t) ∷ []) (x .id) (t .buyer)) (λ t. filled-tie (q .now) (kept-entry r (whole-entry (x .account) t) ∷ []) (x .id) (t .seller)) in
-      record {
-        base = link (x .id) a c u;
-        sound = s2;
-        bought = a;
-        sold = c;
-        leg-is = any-leg-is x;
-        some = some-leg x (and-parts _ _ (p .1 .1 .1 .1 .1 .0) .1);
-        bought-live = here-a;
-        sold-live = here-c;
-        tied = λ z _. ap (put (x .id) c (v .sold)) (put-at a (x .id) (v .buys) z) ∙ put-at (x .id) c (v .sold) i-is;
-        shown = e ∙ ap (λ b. link (x .id) a c (sides a c (cond b Confirmed Allocated) v)) now ∙ ap (link (x .id) a c) (sym (sides-again a c Confirmed Allocated v));
-      }
+  -- an intermediation entered, its sides allocated
+  module _ (r : List Listed) (q : NewIntermediation) (p : Intermediates r s q) where
+    abbrev x : Intermediation
+    x = q .intermediation
 
-  join-sound : (r : List Listed) (q : NewIntermediation) → AllPass (tests r s (Intermediate q)) → Confirmed-hold r s (Intermediate q) → Sound (effect r s (Intermediate q))
-  unfolding effect completed placed tests field-tests own-tests
-  join-sound r q p held =
-      let own = own-pass r s (Intermediate q) p .1 in
-      let x : Intermediation = q .intermediation in
-      let a = x .bought in
-      let c = x .sold in
-      let v = view s in
-      let ts = s .trades .rows in
-      let la = trade-tests s 1 (q .minute) (x .bought) ++ side-tests s 1 (x .participant) Buyer (x .bought) in
-      let lc = trade-tests s 2 (q .minute) (x .sold) ++ side-tests s 2 (x .participant) Seller (x .sold) in
-      let legs-pass = pass-left (for-leg Buyer x la ++ for-leg Seller x lc) _ (own .1 .1) in
-      let pa : Not0 a → AllPass la = for-leg-pass Buyer x la (pass-left (for-leg Buyer x la) (for-leg Seller x lc) legs-pass) in
-      let pc : Not0 c → AllPass lc = for-leg-pass Seller x lc (pass-right (for-leg Buyer x la) (for-leg Seller x lc) legs-pass) in
-      let rest = pass-right (for-leg Buyer x la ++ for-leg Seller x lc) _ (own .1 .1) in
-      let nt = pass-right (for-leg Buyer x (test ground.AccountUntied 1 (tied-in r (x .account) (offered-to (x .participant) Buyer (trade s (x .bought)))) ∷ [])
-      ++ for-leg Seller x (test ground.AccountUntied 2 (tied-in r (x .account) (offered-to (x .participant) Seller (trade s (x .sold)))) ∷ [])
-      ++ for-leg Buyer x (test ground.AccountOpposite 1 (not (on-side (λ e. e .account) (x .account) (trade s (x .bought) .seller))) ∷ [])
-      ++ for-leg Seller x (test ground.AccountOpposite 2 (not (on-side (λ e. e .account) (x .account) (trade s (x .sold) .buyer))) ∷ [])) _ (rest .1 .1 .1 .1 .1) in
-      let i-is : Not0 (x .id) = good-not0 (x .id) (p .1 .1 .0) in
-      let none : find id (x .id) (s .intermediations .rows) ≡ None = none-by _ (not-true _ (own .0)) in
-      let here-a : Not0 a → live v a ≡ true = λ z. and-from _ _ (pa z .0) (pa z .1 .0) in
-      let here-c : Not0 c → live v c ≡ true = λ z. and-from _ _ (pc z .0) (pc z .1 .0) in
-      let u : View = sides a c Allocated v in
-      let s1 : Seen u = sides-kept v (g .seen) a c Allocated refl here-a
-      (num-buyer v (g .seen) a (λ z. not-true _ (pa z .1 .1 .1 .1 .1 .0))) (num-seller v (g .seen) c (λ z. not-true _ (pc z .1 .1 .1 .1 .1 .0))) in
-      let untied-a : v .buys a ≡ 0 = ⊎-elim (λ (z : a ≡ 0). ap (v .buys) z ∙ g .seen .buying .tie-none)
-      (λ (z : Not0 a). eqb-true _ _ (pa z .1 .1 .1 .1 .1 .1 .0)) (cases-eq a 0) in
-      let untied-c : v .sells c ≡ 0 = ⊎-elim (λ (z : c ≡ 0). ap (v .sells) z ∙ g .seen .selling .tie-none)
-      (λ (z : Not0 c). eqb-true _ _ (pc z .1 .1 .1 .1 .1 .1 .0)) (cases-eq c 0) in
-      let both : Not0 a → Not0 c → (has-leg Buyer x && has-leg Seller x) ≡ true = λ z y. and-from _ _ (ap not (ne-eqb _ _ z)) (ap not (ne-eqb _ _ y)) in
-      let long : Not0 a → Not0 c → (any (λ t. eqb (number t) c) (chain-of s a) ≡ false) × (length (chain-of s a) + length (chain-of s c) ≤ 3) = λ z y.
-      let k = and-parts (not (any (λ t. eqb (number t) c) (chain-of s a))) (leb (length (chain-of s a) + length (chain-of s c)) 3) (or-then _ _ (rest .1 .0) (both z y)) in
-      (not-true _ (k .0), leb-true _ _ (k .1)) in
-      let s2 : Seen (link (x .id) a c u) = link-kept u s1 (x .id) a c i-is (ap (λ o. or-else no-intermediation o .bought) none) (ap (λ o. or-else no-intermediation o .sold) none) untied-a untied-c
-      (λ z. ap sure (put-at a Allocated (v .buyer) z)) (λ z. ap sure (put-at c Allocated (v .seller) z)) here-a here-c
-      (λ z y. alike-common (trade s a .terms) (trade s c .terms) (or-then _ _ (rest .0) (both z y)))
-      (λ z y. apart-chains a c (pa z .0) (pc y .0) z y (long z y .0))
-      (λ z y. subst (λ k. k ≤ 3) (ap₂ (λ i j. i + j) (length-chain a (pa z .0) z) (length-chain c (pc y .0) y)) (long z y .1)) in
-      let fb : Trade → Trade = λ t. at-side Buyer (λ d. confirmed-if (q .now) (filled (kept-entry r (whole-entry (x .account) t) ∷ []) (x .id) d)) t in
-      let fs : Trade → Trade = λ t. at-side Seller (λ d. confirmed-if (q .now) (filled (kept-entry r (whole-entry (x .account) t) ∷ []) (x .id) d)) t in
-      let e : view (placed r s (Intermediate q)) ≡ link (x .id) a c (sides a c (cond (q .now) Confirmed Allocated) v) =
-      joined-view x fb fs ts (s .intermediations .rows) (s .pairs .rows)
-      (only-side Buyer (λ t d. confirmed-if (q .now) (filled (kept-entry r (whole-entry (x .account) t) ∷ []) (x .id) d)))
-      (only-side Seller (λ t d. confirmed-if (q .now) (filled (kept-entry r (whole-entry (x .account) t) ∷ []) (x .id) d)))
-      (λ z. pa z .0) (λ z. pc z .0) none0 i-is none (cond (q .now) Confirmed Allocated)
-      (λ t. filled-state (q .now) (kept-entry r (whole-entry (x .account) t) ∷ []) (x .id) (t .buyer)) (λ t. filled-state (q .now) (kept-entry r (whole-entry (x .account) t) ∷ []) (x .id) (t .seller))
-      (λ t. filled-tie (q .now) (kept-entry r (whole-entry (x .account) t) ∷ []) (x .id) (t .buyer)) (λ t. filled-tie (q .now) (kept-entry r (whole-entry (x .account) t) ∷ []) (x .id) (t .seller)) in
-      with-keys _ (placed r s (Intermediate q))
-      (finish (placed r s (Intermediate q)) (any-leg x) (q .now)
-      (λ now. join-conf r q p now)
-      (λ now. subst Seen (sym (e ∙ ap (λ b. link (x .id) a c (sides a c (cond b Confirmed Allocated) v)) now)) s2)
-      (λ now. held (any-leg x) (ap (λ b. cond b (Some (any-leg x)) None) now)) (leb-true _ _ (nt .0)))
-      (rises-changed number fs (λ _. refl) c _ 0 (rises-changed number fb (λ _. refl) a ts 0 (g .trade-keys)))
-      (rises-entered id x (s .intermediations .rows) 0 (g .intermediation-keys) (not0-pos _ i-is) none)
+    here-leg : (w : Side) → Not0 (leg-of w (q .intermediation)) → live (view s) (leg-of w (q .intermediation)) ≡ true
+    here-leg w z = live-one (q .intermediation .participant) w (leg-of w (q .intermediation)) (p .free w (leg-is-there w (q .intermediation) z))
 
-pick : (P : State → Type 0) (b : Bool) (x y : State) → (b ≡ true → P x) → (b ≡ false → P y) → P (elim b [ true ↦ x | false ↦ y ])
-pick P true x y f h = f refl
-pick P false x y f h = h refl
+    none-there : find id (q .intermediation .id) (s .intermediations .rows) ≡ None
+    none-there = none-by _ (p .absent)
+
+    entered-base : View
+    entered-base = link (q .intermediation .id) (q .intermediation .bought) (q .intermediation .sold) (sides (q .intermediation .bought) (q .intermediation .sold) Allocated (view s))
+
+    entered-sound : Seen (link (q .intermediation .id) (q .intermediation .bought) (q .intermediation .sold) (sides (q .intermediation .bought) (q .intermediation .sold) Allocated (view s)))
+    entered-sound =
+        let v = view s in
+        let a = q .intermediation .bought in
+        let c = q .intermediation .sold in
+        let fa : Not0 a → Free s (q .intermediation .participant) Buyer a = λ z. p .free Buyer (leg-is-there Buyer (q .intermediation) z) in
+        let fc : Not0 c → Free s (q .intermediation .participant) Seller c = λ z. p .free Seller (leg-is-there Seller (q .intermediation) z) in
+        let s1 : Seen (sides a c Allocated v) = sides-kept v (g .seen) a c Allocated refl (here-leg Buyer) (num-buyer v (g .seen) a (λ z. fa z .unsure)) (num-seller v (g .seen) c (λ z. fc z .unsure)) in
+        let untied-a : v .buys a ≡ 0 = ⊎-elim (λ (z : a ≡ 0). ap (v .buys) z ∙ g .seen .buying .tie-none) (λ (z : Not0 a). fa z .untied) (cases-eq a 0) in
+        let untied-c : v .sells c ≡ 0 = ⊎-elim (λ (z : c ≡ 0). ap (v .sells) z ∙ g .seen .selling .tie-none) (λ (z : Not0 c). fc z .untied) (cases-eq c 0) in
+        let both : Not0 a → Not0 c → both-legs (q .intermediation) ≡ true = λ z y. and-from _ _ (leg-is-there Buyer (q .intermediation) z) (leg-is-there Seller (q .intermediation) y) in
+        link-kept (sides a c Allocated v) s1 (q .intermediation .id) a c (p .id-is) (ap (λ o. or-else no-intermediation o .bought) none-there) (ap (λ o. or-else no-intermediation o .sold) none-there) untied-a untied-c
+        (λ z. ap sure (put-at a Allocated (v .buyer) z)) (λ z. ap sure (put-at c Allocated (v .seller) z)) (here-leg Buyer) (here-leg Seller)
+        (λ z y. alike-common (trade s a .terms) (trade s c .terms) (p .alike-legs (both z y)))
+        (λ z y. apart-chains a c (fa z .trade .here) z y (p .apart (both z y)))
+        (λ z y. subst (λ k. k ≤ 3) (ap₂ (λ i j. i + j) (length-chain a (fa z .trade .here) z) (length-chain c (fc y .trade .here) y)) (p .short (both z y)))
+
+    abbrev leg-rule : Side → Trade → Trade
+    leg-rule w t = at-side w (intermediated r (q .intermediation) (q .now) t) t
+
+    entered-shown : view (placed r s (Intermediate q)) ≡ link (q .intermediation .id) (q .intermediation .bought) (q .intermediation .sold) (sides (q .intermediation .bought) (q .intermediation .sold) (cond (q .now) Confirmed Allocated) (view s))
+    unfolding placed
+    entered-shown =
+        let e : Trade → List KeptEntry = λ t. kept-entry r (whole-entry (q .intermediation .account) t) ∷ [] in
+        joined-view (q .intermediation) (leg-rule Buyer) (leg-rule Seller) (s .trades .rows) (s .intermediations .rows) (s .pairs .rows)
+        (only-side Buyer (intermediated r (q .intermediation) (q .now))) (only-side Seller (intermediated r (q .intermediation) (q .now)))
+        (λ z. and-parts _ _ (here-leg Buyer z) .0) (λ z. and-parts _ _ (here-leg Seller z) .0) none0 (p .id-is) none-there (cond (q .now) Confirmed Allocated)
+        (λ t. filled-state (q .now) (e t) (q .intermediation .id) (t .buyer)) (λ t. filled-state (q .now) (e t) (q .intermediation .id) (t .seller))
+        (λ t. filled-tie (q .now) (e t) (q .intermediation .id) (t .buyer)) (λ t. filled-tie (q .now) (e t) (q .intermediation .id) (t .seller))
+
+    pub join-conf : q .now ≡ true → Confirming (placed r s (Intermediate q)) (any-leg (q .intermediation))
+    join-conf now =
+        let a = q .intermediation .bought in
+        let c = q .intermediation .sold in
+        let v = view s in
+        record {
+          base = link (q .intermediation .id) a c (sides a c Allocated v);
+          sound = entered-sound;
+          bought = a;
+          sold = c;
+          leg-is = any-leg-is (q .intermediation);
+          some = some-leg (q .intermediation) (p .some-leg);
+          bought-live = here-leg Buyer;
+          sold-live = here-leg Seller;
+          tied = λ z _. ap (put (q .intermediation .id) c (v .sold)) (put-at a (q .intermediation .id) (v .buys) z) ∙ put-at (q .intermediation .id) c (v .sold) (p .id-is);
+          shown = entered-shown ∙ ap (λ b. link (q .intermediation .id) a c (sides a c (cond b Confirmed Allocated) v)) now ∙ ap (link (q .intermediation .id) a c) (sym (sides-again a c Confirmed Allocated v));
+        }
+
+    join-sound : Confirmed-hold r s (Intermediate q) → Sound (effect r s (Intermediate q))
+    unfolding effect completed placed
+    join-sound held =
+        let n = any-leg (q .intermediation) in
+        with-keys _ (placed r s (Intermediate q))
+        (finish (placed r s (Intermediate q)) n (q .now)
+        join-conf
+        (λ now. subst Seen (sym (entered-shown ∙ ap (λ b. link (q .intermediation .id) (q .intermediation .bought) (q .intermediation .sold) (sides (q .intermediation .bought) (q .intermediation .sold) (cond b Confirmed Allocated) (view s))) now)) entered-sound)
+        (λ now. held n (ap (λ b. cond b (Some n) None) now)) (p .enough))
+        (rises-changed number (leg-rule Seller) (λ _. refl) (q .intermediation .sold) _ 0 (rises-changed number (leg-rule Buyer) (λ _. refl) (q .intermediation .bought) (s .trades .rows) 0 (g .trade-keys)))
+        (rises-entered id (q .intermediation) (s .intermediations .rows) 0 (g .intermediation-keys) (not0-pos _ (p .id-is)) none-there)
 
 module _ (s : State) (g : Sound s) where
   -- both intermediations of a trade go
@@ -606,25 +473,24 @@ module _ (s : State) (g : Sound s) where
       let r2 = excluded-is (excluded (v .buys n) s) (r1 .1) (v .sells n) (subst (λ u. Seen (exclude (v .sells n) u)) (sym (r1 .0)) s2) in
       (r2 .0 ∙ ap (exclude (v .sells n)) (r1 .0), r2 .1, nn)
 
-  cancel-sound : (r : List Listed) (q : Cancellation) → AllPass (tests r s (Cancel q)) → Sound (effect r s (Cancel q))
-  unfolding effect completed placed tests field-tests own-tests
+  cancel-sound : (r : List Listed) (q : Cancellation) → Stands s (q .trade) → Sound (effect r s (Cancel q))
+  unfolding effect completed placed
   cancel-sound r q p =
-      let own = own-pass r s (Cancel q) p .1 in
       let n = q .trade in
       let v = view s in
-      pick Sound (both-confirmed (trade s n)) _ _
+      let t = excluded (trade s n .seller .tie) (excluded (trade s n .buyer .tie) s) in
+      cond-both (both-confirmed (trade s n)) (at-trade n marked s) (called-off n (trade s n) s) Sound
       (λ _. record {
-        seen = subst Seen (sym (marked-view n (s .trades .rows) (s .intermediations .rows) (s .pairs .rows) (λ _. own .0) (g .seen .none))) (g .seen);
-        trade-keys = rises-changed number (λ t. in-state (t .state) true t) (λ _. refl) n (s .trades .rows) 0 (g .trade-keys);
+        seen = subst Seen (sym (marked-view n (s .trades .rows) (s .intermediations .rows) (s .pairs .rows) (λ _. p .here) (g .seen .none))) (g .seen);
+        trade-keys = rises-changed number marked (λ _. refl) n (s .trades .rows) 0 (g .trade-keys);
         intermediation-keys = g .intermediation-keys;
       })
       (λ h.
       let w = twice-excluded n h in
-      let t = excluded (trade s n .seller .tie) (excluded (trade s n .buyer .tie) s) in
       let e = w .0 in
       let zb : trade t n .buyer .tie ≡ 0 = ap (λ (u : View). u .buys n) e ∙ gone-b v (g .seen) n in
       let zs : trade t n .seller .tie ≡ 0 = ap (λ (u : View). u .sells n) e ∙ gone-s v (g .seen) n in
-      let alive : live (view t) n ≡ true = ap (λ (u : View). live u n) e ∙ and-from _ _ (own .0) (own .1 .0) in
+      let alive : live (view t) n ≡ true = ap (λ (u : View). live u n) e ∙ and-from _ _ (p .here) (p .open-still) in
       let nn : view t .num n ≡ false = ap (λ (u : View). u .num n) e ∙ w .2 in
       record {
         seen = subst Seen (sym (voided-view n (t .trades .rows) (t .intermediations .rows) (t .pairs .rows) (λ _. and-parts _ _ alive .0) (w .1 .seen .none) nn zb zs))
@@ -634,37 +500,37 @@ module _ (s : State) (g : Sound s) where
       })
 
   -- the invariant is kept
-  pub accepted : (r : List Listed) (q : Request) → AllPass (tests r s q) → Confirmed-hold r s q → Sound (effect r s q)
+  pub accepted : (r : List Listed) (q : Request) → Passed r s q → Confirmed-hold r s q → Sound (effect r s q)
   unfolding effect completed placed
-  accepted r (Capture q) p h = capture-sound s g r q p
-  accepted r (Cancel q) p h = cancel-sound r q p
-  accepted r (Include q) p h = include-sound s g r q p h
-  accepted r (Remove q) p h = remove-sound s g r q p
-  accepted r (Confirm q) p h = confirm-sound s g r q p h
-  accepted r (Intermediate q) p h = join-sound s g r q p h
-  accepted r (ConfirmIntermediation q) p h = confirm-intermediation-sound s g r q p h
-  accepted r (ExcludeIntermediation q) p h = exclude-sound s g r q p
+  accepted r (Capture q) p h = capture-sound s g r q (p .own)
+  accepted r (Cancel q) p h = cancel-sound r q (p .own)
+  accepted r (Include q) p h = include-sound s g r q (p .own) h
+  accepted r (Remove q) p h = remove-sound s g r q (p .own)
+  accepted r (Confirm q) p h = confirm-sound s g r q (p .own) h
+  accepted r (Intermediate q) p h = join-sound s g r q (p .own) h
+  accepted r (ConfirmIntermediation q) p h = confirm-intermediation-sound s g r q (p .tables) (p .own) h
+  accepted r (ExcludeIntermediation q) p h = exclude-sound s g r q (p .tables) (p .own)
   accepted r (Close q) p h = record { seen = nothing-sound; trade-keys = refl; intermediation-keys = refl }
 
   some-is : (x y : ℕ) → Some x ≡ Some y → x ≡ y
   some-is x y e = ap (or-else 0) e
 
   -- what a confirming request leaves
-  pub confirming : (r : List Listed) (q : Request) → AllPass (tests r s q) → (n : ℕ) → confirms-in s q ≡ Some n → Confirming (placed r s q) n
+  pub confirming : (r : List Listed) (q : Request) → Passed r s q → (n : ℕ) → confirms-in s q ≡ Some n → Confirming (placed r s q) n
   confirming r (Capture q) p n e = absurd (some-not n (sym e))
   confirming r (Cancel q) p n e = absurd (some-not n (sym e))
   confirming r (Include q) p n e = go (q .now) refl e
     where
       go : (b : Bool) → q .now ≡ b → cond b (Some (q .trade)) None ≡ Some n → Confirming (placed r s (Include q)) n
-      go true now d = subst (Confirming (placed r s (Include q))) (some-is (q .trade) n d) (include-conf s g r q p now)
+      go true now d = subst (Confirming (placed r s (Include q))) (some-is (q .trade) n d) (include-conf s g r q (p .own) now)
       go false now d = absurd (some-not n (sym d))
   confirming r (Remove q) p n e = absurd (some-not n (sym e))
-  confirming r (Confirm q) p n e = subst (Confirming (placed r s (Confirm q))) (some-is (q .trade) n e) (confirm-conf s g r q p)
+  confirming r (Confirm q) p n e = subst (Confirming (placed r s (Confirm q))) (some-is (q .trade) n e) (confirm-conf s g r q (p .own))
   confirming r (Intermediate q) p n e = go (q .now) refl e
     where
       go : (b : Bool) → q .now ≡ b → cond b (Some (any-leg (q .intermediation))) None ≡ Some n → Confirming (placed r s (Intermediate q)) n
-      go true now d = subst (Confirming (placed r s (Intermediate q))) (some-is (any-leg (q .intermediation)) n d) (join-conf s g r q p now)
+      go true now d = subst (Confirming (placed r s (Intermediate q))) (some-is (any-leg (q .intermediation)) n d) (join-conf s g r q (p .own) now)
       go false now d = absurd (some-not n (sym d))
-  confirming r (ConfirmIntermediation q) p n e = subst (Confirming (placed r s (ConfirmIntermediation q))) (some-is (any-leg (intermediation s (q .id))) n e) (confirm-intermediation-conf s g r q p)
+  confirming r (ConfirmIntermediation q) p n e = subst (Confirming (placed r s (ConfirmIntermediation q))) (some-is (any-leg (intermediation s (q .id))) n e) (confirm-intermediation-conf s g r q (p .tables) (p .own))
   confirming r (ExcludeIntermediation q) p n e = absurd (some-not n (sym e))
   confirming r (Close q) p n e = absurd (some-not n (sym e))

@@ -7,8 +7,8 @@ use lib.ListN.{length}
 use Rattle.fields.specs.declared.trade.Side.{Side}
 use Rattle.fields.specs.declared.trade.Side.the-variants.{Buyer, Seller}
 use Rattle.keyed.specs.Members.{Each}
+use Rattle.rows.specs.Allocations.{entries-held}
 use Rattle.rows.specs.Trades.{allocation, alike}
-use Rattle.book.specs.Numbering.{entries-held}
 use Rattle.book.specs.Runs.{Beginning, begun}
 use Rattle.book.specs.State.{trade}
 use Rattle.law.specs.Law.{Beginning-lawful, Agrees, Sides, Chains, Pairs, Chain, Linked, None-twice}

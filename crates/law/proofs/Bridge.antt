@@ -13,7 +13,9 @@ use Rattle.fields.specs.declared.trade.Side.the-variants.{Buyer, Seller}
 use Rattle.fields.specs.declared.trade.Terms.{Terms}
 use Rattle.keyed.specs.Lists.{or-else, is-some}
 use Rattle.keyed.specs.Rows.{find, changed, entered, removed, rises-above}
-use Rattle.rows.specs.Trades.{number, id, allocation, is-cancelled, is-numbered, no-trade, no-intermediation, at-side, in-state, emptied, numbered, captured as captured-row}
+use Rattle.rows.specs.Allocations.{emptied}
+use Rattle.rows.specs.Legs.{id, no-intermediation}
+use Rattle.rows.specs.Trades.{number, allocation, is-cancelled, is-numbered, no-trade, at-side, in-state, numbered, captured as captured-row}
 use Rattle.rows.specs.declared.row.Allocation.{Allocation as Half-row}
 use Rattle.rows.specs.declared.row.AllocationState.{AllocationState}
 use Rattle.rows.specs.declared.row.AllocationState.the-variants.{Empty}

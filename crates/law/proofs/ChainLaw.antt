@@ -18,7 +18,8 @@ use Rattle.keyed.specs.Lists.{or-else, is-some}
 use Rattle.keyed.specs.Members.{In, Each}
 use Rattle.keyed.specs.Rows.{find}
 use Rattle.rows.specs.Accounts.{same-kind}
-use Rattle.rows.specs.Trades.{number, id, allocation, leg, no-trade, no-intermediation, alike}
+use Rattle.rows.specs.Legs.{id, leg, no-intermediation}
+use Rattle.rows.specs.Trades.{number, allocation, no-trade, alike}
 use Rattle.rows.specs.declared.row.Trade.{Trade}
 use Rattle.chains.proofs.Found.{row-key, none-by, some-by, some-not, in-row, each-by}
 use Rattle.chains.proofs.Walk.{Not0}

@@ -20,7 +20,9 @@ use Rattle.register.specs.Meaning.{Listed}
 use Rattle.requests.specs.declared.request.Request.{Request}
 use Rattle.requests.specs.declared.request.Request.the-variants.{Capture, Cancel, Include, Remove, Confirm, Intermediate, ConfirmIntermediation, ExcludeIntermediation, Close}
 use Rattle.rows.specs.Accounts.{is-selic}
-use Rattle.rows.specs.Trades.{number, id, other, leg, both-confirmed, at-side, no-trade, confirmed}
+use Rattle.rows.specs.Allocations.{other, confirmed}
+use Rattle.rows.specs.Legs.{id, leg}
+use Rattle.rows.specs.Trades.{number, both-confirmed, at-side, no-trade}
 use Rattle.rows.specs.declared.row.Allocation.{Allocation}
 use Rattle.rows.specs.declared.row.Trade.{Trade}
 use Rattle.chains.proofs.Found.{none-by, some-by}

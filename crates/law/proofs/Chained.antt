@@ -13,7 +13,9 @@ use Rattle.fields.specs.declared.trade.Side.{Side}
 use Rattle.fields.specs.declared.trade.Side.the-variants.{Buyer, Seller}
 use Rattle.keyed.specs.Lists.{or-else, is-some, all, any}
 use Rattle.keyed.specs.Rows.{find}
-use Rattle.rows.specs.Trades.{number, id, allocation, other, leg, no-trade, no-intermediation}
+use Rattle.rows.specs.Allocations.{other}
+use Rattle.rows.specs.Legs.{id, leg, no-intermediation}
+use Rattle.rows.specs.Trades.{number, allocation, no-trade}
 use Rattle.rows.specs.declared.row.Trade.{Trade}
 use Rattle.chains.proofs.Found.{row-key, some-by, none-by}
 use Rattle.chains.proofs.Ties.{first-is}
@@ -141,7 +143,7 @@ module _ (ts : List Trade) (xs : List Intermediation) (half : (w : Side) → Hal
       one-back x y false u = refl
 
   -- what holds of a line, trade by trade
-  pub length-line : (f : ℕ) → on ts xs Buyer 0 ≡ 0 → length (line f) ≡ count-from (on ts xs Buyer) f
+  pub length-line : (f : ℕ) → on ts xs Buyer 0 ≡ 0 → length (numbers-from f) ≡ count-from (on ts xs Buyer) f
   unfolding count-from
   length-line f z =
       let nx = on ts xs Buyer in
@@ -169,17 +171,16 @@ module _ (ts : List Trade) (xs : List Intermediation) (half : (w : Side) → Hal
       and-true false = refl
 
   -- none of a line
-  pub none-line : (p : Trade → Bool) (f : ℕ) → any p (line f) ≡ false
-      → (p (tr ts f) ≡ false) × (Not0 (on ts xs Buyer f) → p (tr ts (on ts xs Buyer f)) ≡ false)
-      × (Not0 (on ts xs Buyer f) → Not0 (on ts xs Buyer (on ts xs Buyer f)) → p (tr ts (on ts xs Buyer (on ts xs Buyer f))) ≡ false)
-  none-line p f h =
+  pub none-line : (q : ℕ → Bool) (f : ℕ) → any q (numbers-from f) ≡ false
+      → (q f ≡ false) × (Not0 (on ts xs Buyer f) → q (on ts xs Buyer f) ≡ false)
+      × (Not0 (on ts xs Buyer f) → Not0 (on ts xs Buyer (on ts xs Buyer f)) → q (on ts xs Buyer (on ts xs Buyer f)) ≡ false)
+  none-line q f h =
       let nx = on ts xs Buyer in
-      let a = or-parts (p (tr ts f)) (any p (map (tr ts) (ahead Buyer f))) h in
-      let b : Not0 (nx f) → (p (tr ts (nx f)) || any p (map (tr ts) (cond (eqb (nx (nx f)) 0) [] (nx (nx f) ∷ [])))) ≡ false =
-      λ z. rw (ne-eqb (nx f) 0 z) at (a .1) in
+      let a = or-parts (q f) (any q (ahead Buyer f)) h in
+      let b : Not0 (nx f) → (q (nx f) || any q (cond (eqb (nx (nx f)) 0) [] (nx (nx f) ∷ []))) ≡ false = λ z. rw (ne-eqb (nx f) 0 z) at (a .1) in
       (a .0,
       (λ z. or-parts _ _ (b z) .0),
-      (λ z y. or-parts (p (tr ts (nx (nx f)))) false (sym (ap (λ c. any p (map (tr ts) (cond c [] (nx (nx f) ∷ [])))) (ne-eqb (nx (nx f)) 0 y)) ∙ or-parts _ _ (b z) .1) .0))
+      (λ z y. or-parts (q (nx (nx f))) false (sym (ap (λ c. any q (cond c [] (nx (nx f) ∷ []))) (ne-eqb (nx (nx f)) 0 y)) ∙ or-parts _ _ (b z) .1) .0))
 
   pub last-line : (f : ℕ) → on ts xs Buyer 0 ≡ 0 → last-of (line f) ≡ tr ts (far (on ts xs Buyer) f)
   last-line f z =

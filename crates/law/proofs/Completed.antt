@@ -17,7 +17,8 @@ use Rattle.keyed.specs.Lists.{or-else}
 use Rattle.keyed.specs.Members.{Each}
 use Rattle.keyed.specs.Rows.{Table, find, changed-in}
 use Rattle.rows.specs.Accounts.{same-kind}
-use Rattle.rows.specs.Trades.{number, allocation, is-empty, is-confirmed, both-confirmed, alike, numbered, no-trade, total}
+use Rattle.rows.specs.Allocations.{is-empty, is-confirmed, total, entries-held}
+use Rattle.rows.specs.Trades.{number, allocation, both-confirmed, alike, numbered, no-trade}
 use Rattle.rows.specs.declared.row.AllocationState.{AllocationState}
 use Rattle.rows.specs.declared.row.AllocationState.the-variants.{Empty, Allocated, Confirmed}
 use Rattle.rows.specs.declared.row.Trade.{Trade}
@@ -25,7 +26,7 @@ use Rattle.chains.proofs.Lists.{each-map}
 use Rattle.chains.proofs.Matches.{Level, pairs-paired}
 use Rattle.chains.specs.Following.{last-of}
 use Rattle.chains.specs.Paired.{Paired}
-use Rattle.book.specs.Numbering.{all-numbered, numbering, chain-matches, by-selic, issuer, new-pairs, entries-held}
+use Rattle.book.specs.Numbering.{all-numbered, numbering, chain-matches, by-selic, issuer, new-pairs}
 use Rattle.book.specs.Runs.{History, Beginning}
 use Rattle.book.specs.State.{State, trade}
 use Rattle.law.proofs.ChainRows.{Found, trade-at, part-changed}

@@ -15,6 +15,7 @@ use Rattle.fields.specs.declared.trade.Side.{Side}
 use Rattle.fields.specs.declared.trade.Side.the-variants.{Buyer, Seller}
 use Rattle.keyed.specs.Lists.{or-else, is-some, all}
 use Rattle.keyed.specs.Rows.{Table, find, changed}
+use Rattle.rows.specs.Allocations.{entries-held}
 use Rattle.rows.specs.Trades.{number, numbered, both-confirmed}
 use Rattle.rows.specs.declared.row.AllocationState.the-variants.{Confirmed}
 use Rattle.rows.specs.declared.row.Trade.{Trade}
@@ -24,7 +25,7 @@ use Rattle.chains.proofs.Walks.{put-cases, far-not0, far-keeps, far-far, far-ac
 use Rattle.chains.specs.Following.{first-of, last-of}
 use Rattle.chains.specs.Pairing.{matched, matches, given-numbers}
 use Rattle.chains.specs.declared.pairing.Match.{Match}
-use Rattle.book.specs.Numbering.{if-all-confirmed, chain-confirmed, chain-matches, entries-held, issuer, new-pairs, all-numbered, numbering, with-numbers}
+use Rattle.book.specs.Numbering.{if-all-confirmed, chain-confirmed, chain-matches, issuer, new-pairs, all-numbered, numbering, with-numbers}
 use Rattle.book.specs.State.{State, chain-of, trade}
 use Rattle.law.proofs.Bridge.{re-numbered, numbered-one, marked}
 use Rattle.law.proofs.Chained.{tie-at, leg-at, line, chain-is, all-line, last-line, tr-number}

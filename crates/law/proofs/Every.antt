@@ -15,23 +15,23 @@ use Rattle.register.specs.Meaning.{Listed}
 use Rattle.requests.specs.declared.request.Request.{Request}
 use Rattle.requests.specs.declared.request.Request.the-variants.{Capture, Cancel, Include, Remove, Confirm, Intermediate, ConfirmIntermediation, ExcludeIntermediation, Close}
 use Rattle.rows.specs.declared.row.Trade.{Trade}
-use Rattle.book.specs.Answers.{reply}
 use Rattle.book.specs.Effects.{placed}
-use Rattle.book.specs.Numbering.{if-all-confirmed, chain-confirmed, completed, chain-matches, issuer, with-numbers, confirms-in, effect}
+use Rattle.book.specs.Numbering.{reply, if-all-confirmed, chain-confirmed, completed, chain-matches, issuer, with-numbers, confirms-in, effect}
 use Rattle.book.specs.Runs.{History, Beginning, Call, event, rows-named, Run, stepped, ran, begun}
 use Rattle.book.specs.State.{State}
-use Rattle.book.specs.Steps.{Outcome, first-refusal, outcome, step}
-use Rattle.book.specs.Tests.{tests}
-use Rattle.law.proofs.Accepts.{Sound, Confirmed-hold, AllPass, accepted, confirming}
+use Rattle.book.specs.Steps.{Outcome, outcome, step}
+use Rattle.book.specs.Verdicts.{verdict}
+use Rattle.law.proofs.Accepts.{Sound, Confirmed-hold, accepted, confirming}
 use Rattle.law.proofs.Beginnings.{beginning-lawful}
 use Rattle.law.proofs.ChainLaw.{chains}
 use Rattle.law.proofs.ChainRows.{Found, completed-found, kind-known}
 use Rattle.law.proofs.Completes.{Confirming, conf-line, conf-chain, conf-all}
 use Rattle.law.proofs.Events.{placed-keeps, call, accepted-keeps}
-use Rattle.law.proofs.Fair.{all-pass, fair-from}
+use Rattle.law.proofs.Fair.{fair-from}
 use Rattle.law.proofs.Histories.{Counted, counted-of, refused-pairs}
 use Rattle.law.proofs.Kept.{nothing-sound}
 use Rattle.law.proofs.PairLaw.{pairs-cleared}
+use Rattle.law.proofs.Passed.{Passed, all-passed}
 use Rattle.law.proofs.Placed.{placed-leaves, open-before}
 use Rattle.law.proofs.Quantities.{placed-sound}
 use Rattle.law.proofs.Shown.{view}
@@ -47,12 +47,10 @@ pub record Held (b : Beginning) (h : History) (s : State) : Type 0 where
   pub kept : Kept (b .day) h s
   pub pairs : Pairs b h s
 
-module _ (b : Beginning) (h : History) (r : List Listed) (s : State) (q : Request) (k : Held b h s) (e : first-refusal (tests r s q) ≡ None) where
-  pass : AllPass (tests r s q)
-  pass = all-pass (tests r s q) e
+module _ (b : Beginning) (h : History) (r : List Listed) (s : State) (q : Request) (k : Held b h s) (pass : Passed r s q) where
 
   hold : Confirmed-hold r s q
-  hold m c = ends-hold (placed r s q) (placed-sound r s q m e c)
+  hold m c = ends-hold (placed r s q) (placed-sound r s q m pass c)
       (placed-fair (plain (b .day) h) (λ w n. last-filling (b .day) w n h) r s (fair-from (b .day) h s (k .kept .agrees) (k .kept .sides)) (chains s (k .sound)) q pass .adds)
 
   pub sound-after : Sound (effect r s q)
@@ -65,7 +63,7 @@ module _ (b : Beginning) (h : History) (r : List Listed) (s : State) (q : Reques
   kept-after = kept-accepted (b .day) h r s q (rows-named (Ok (reply r s q)) (effect r s q .pairs .rows)) (chains s (k .sound)) (k .kept) pass
 
   counted-after : Counted b now (effect r s q)
-  counted-after = accepted-keeps b h r s q e (k .kept .agrees .pair-count) (kind-known b h r s q (k .kept .agrees)) (counted-of b h s (k .pairs))
+  counted-after = accepted-keeps b h r s q pass (k .kept .agrees .pair-count) (kind-known b h r s q (k .kept .agrees)) (counted-of b h s (k .pairs))
 
   -- what is shown for the chain that was completed
   by-chain : (c : List Trade) → completed r s q ≡ c
@@ -99,8 +97,8 @@ module _ (b : Beginning) (h : History) (r : List Listed) (s : State) (q : Reques
           by-chain (conf-line (placed r s q) n conf) d (λ g counted sides.
           written b h s (k .sound) (k .pairs) (placed r s q) (placed-leaves s (k .sound) r q c pass) (placed-keeps r s q c) n conf (open-before s (k .sound) r q pass n o) w
           (subst (Each (Found (placed r s q .trades .rows))) d (completed-found r s q))
-          (subst (λ x. length (chain-matches x) ≤ length (issuer x s)) d (enough r s q e n o))
-          (placed-sound r s q n e o) now g counted sides)
+          (subst (λ x. length (chain-matches x) ≤ length (issuer x s)) d (enough r s q pass n o))
+          (placed-sound r s q n pass o) now g counted sides)
       by-whole (inr w) = nothing-completed c (is-cond ∙ ap (λ z. cond z (conf-line (placed r s q) n conf) []) w)
 
   still-open : closes q ≡ false → Pairs b now (effect r s q)
@@ -111,7 +109,7 @@ module _ (b : Beginning) (h : History) (r : List Listed) (s : State) (q : Reques
       go None o = nothing-completed c (ap (chain-confirmed (placed r s q)) o)
       go (Some n) o = chain-completed c n o
 
-pairs-after : (b : Beginning) (h : History) (r : List Listed) (s : State) (q : Request) (k : Held b h s) (e : first-refusal (tests r s q) ≡ None)
+pairs-after : (b : Beginning) (h : History) (r : List Listed) (s : State) (q : Request) (k : Held b h s) (e : Passed r s q)
     → Pairs b (event (call q r) (Ok (reply r s q)) (effect r s q) ∷ h) (effect r s q)
 unfolding effect placed completed
 pairs-after b h r s (Capture q) k e = still-open b h r s (Capture q) k e refl
@@ -128,15 +126,15 @@ pairs-after b h r s (Close q) k e = pairs-cleared b _ (effect r s (Close q)) ref
 held-step : (b : Beginning) (h : History) (s : State) (c : Call) → Held b h s
     → (let o : Outcome = step (c .register) s (c .asked) in Held b (event c (o .answer) (o .after) ∷ h) (o .after))
 unfolding step
-held-step b h s c k = go (first-refusal (tests (c .register) s (c .asked))) refl
+held-step b h s c k = go (verdict (c .register) s (c .asked)) refl
   where
-    go : (x : Option Refusal) → first-refusal (tests (c .register) s (c .asked)) ≡ x
+    go : (x : Option Refusal) → verdict (c .register) s (c .asked) ≡ x
         → Held b (event c (outcome x (c .register) s (c .asked) .answer) (outcome x (c .register) s (c .asked) .after) ∷ h) (outcome x (c .register) s (c .asked) .after)
     go (Some x) e = record { sound = k .sound; kept = kept-refused (b .day) h (c .register) s (c .asked) x [] (k .kept); pairs = refused-pairs b h s c x (k .pairs) }
     go None e = record {
-      sound = sound-after b h (c .register) s (c .asked) k e;
-      kept = kept-after b h (c .register) s (c .asked) k e;
-      pairs = pairs-after b h (c .register) s (c .asked) k e }
+      sound = sound-after b h (c .register) s (c .asked) k (all-passed (c .register) s (c .asked) e);
+      kept = kept-after b h (c .register) s (c .asked) k (all-passed (c .register) s (c .asked) e);
+      pairs = pairs-after b h (c .register) s (c .asked) k (all-passed (c .register) s (c .asked) e) }
 
 held-ran : (b : Beginning) (run : Run) (cs : List Call) → Held b (run .history) (run .state) → Held b (ran run cs .history) (ran run cs .state)
 unfolding ran

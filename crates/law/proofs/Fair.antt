@@ -1,6 +1,6 @@
 -- The parts of the law that a request's own changes keep: agreement with the plain book, and the sides.
 use mathlib.Core.Bool.{Bool, true, false, cond, not, _&&_}
-use mathlib.Core.List.{List, [], _∷_, _++_, map}
+use mathlib.Core.List.{List, [], _∷_, map}
 use mathlib.Core.Logic.{⊎-elim}
 use mathlib.Core.Path.{_≡_, refl, sym, ap, subst, _∙_}
 use Prim.Native.Nat.{ℕ, _+_}
@@ -22,40 +22,19 @@ use Rattle.keyed.specs.Members.{Each}
 use Rattle.keyed.specs.Rows.{Table, find, changed, changed-in}
 use Rattle.register.specs.Meaning.{Listed}
 use Rattle.requests.specs.declared.request.Request.{Request}
-use Rattle.rows.specs.Trades.{number, allocation, at-side, held, is-empty, filled, confirmed, confirmed-if, no-trade, numbered, total}
+use Rattle.rows.specs.Allocations.{held, is-empty, filled, confirmed, confirmed-if, total, entries-held}
+use Rattle.rows.specs.Trades.{number, allocation, at-side, no-trade, numbered}
 use Rattle.rows.specs.declared.row.Allocation.{Allocation}
 use Rattle.rows.specs.declared.row.AllocationState.{AllocationState}
 use Rattle.rows.specs.declared.row.KeptEntry.{KeptEntry}
 use Rattle.rows.specs.declared.row.Trade.{Trade}
 use Rattle.chains.proofs.Keys.{mapped, row-map, map-changed, length-changed, seen-put, seen-kept, each-changed, each-row, none-some, row-changed-same, row-changed-other}
-use Rattle.book.specs.Numbering.{entries-held, all-numbered, numbering, with-numbers, new-pairs}
+use Rattle.book.specs.Entries.{kept-entry}
+use Rattle.book.specs.Numbering.{all-numbered, numbering, with-numbers, new-pairs}
 use Rattle.book.specs.Runs.{History}
-use Rattle.book.specs.State.{kept-entry, State, trade, at-trade}
-use Rattle.book.specs.Steps.{first-refusal}
-use Rattle.book.specs.Tests.{Test}
+use Rattle.book.specs.State.{State, trade, at-trade}
 use Rattle.law.specs.Law.{Agrees, Sides, Entitled-by, told}
 use Rattle.law.specs.Plain.{Told, Plain, plain, told-number, put, side-now, Touch, touch, is-side, Filling, last-filling, filling-entries, terms-in, terms-of, empties, fills, leaves}
-
--- ── Tests that pass ──
-
-abbrev pub AllPass : List Test → Type 0
-AllPass [] = Unit {0}
-AllPass (t ∷ ts) = (t .passes ≡ true) × AllPass ts
-
-pub all-pass : (ts : List Test) → first-refusal ts ≡ None → AllPass ts
-all-pass [] e = tt
-all-pass (t ∷ ts) e =
-    ⊎-elim (λ (p : t .passes ≡ true). (p, all-pass ts (rw p at e)))
-    (λ (p : t .passes ≡ false). absurd (none-some _ (sym (rw p at e))))
-    (cases-bool (t .passes))
-
-pub pass-left : (ts us : List Test) → AllPass (ts ++ us) → AllPass ts
-pass-left [] us p = tt
-pass-left (t ∷ ts) us p = (p .0, pass-left ts us (p .1))
-
-pub pass-right : (ts us : List Test) → AllPass (ts ++ us) → AllPass us
-pass-right [] us p = p
-pass-right (t ∷ ts) us p = pass-right ts us (p .1)
 
 -- ── What a side holds, by number ──
 

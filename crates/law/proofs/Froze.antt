@@ -14,11 +14,12 @@ use Rattle.fields.specs.declared.trade.Side.the-variants.{Buyer, Seller}
 use Rattle.keyed.specs.Lists.{or-else}
 use Rattle.keyed.specs.Members.{Each}
 use Rattle.keyed.specs.Rows.{find, changed, entered, removed}
-use Rattle.rows.specs.Trades.{number, id, allocation, leg, is-numbered, no-trade, no-intermediation}
+use Rattle.rows.specs.Allocations.{entries-held}
+use Rattle.rows.specs.Legs.{id, leg, no-intermediation}
+use Rattle.rows.specs.Trades.{number, allocation, is-numbered, no-trade}
 use Rattle.rows.specs.declared.row.Trade.{Trade}
 use Rattle.chains.proofs.Found.{omap, row-changed, row-entered, row-removed}
 use Rattle.chains.proofs.Walk.{Not0}
-use Rattle.book.specs.Numbering.{entries-held}
 use Rattle.book.specs.State.{State, trade, intermediation}
 use Rattle.law.proofs.Accepts.{Sound, walk-in, halves-of}
 use Rattle.law.proofs.Completed.{final-each}

@@ -18,7 +18,7 @@ use Rattle.keyed.specs.Lists.{those}
 use Rattle.keyed.specs.Members.{Each}
 use Rattle.rows.specs.Accounts.{is-selic}
 use Rattle.chains.proofs.Lists.{each-map, each-append, those-append, those-all, those-none}
-use Rattle.book.specs.Answers.{written}
+use Rattle.book.specs.Numbering.{written}
 use Rattle.book.specs.Runs.{Event, History, Beginning, Call, event, rows-named}
 use Rattle.book.specs.State.{State}
 use Rattle.law.specs.Law.{Named, All-named, Pairs}

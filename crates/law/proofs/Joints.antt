@@ -1,12 +1,12 @@
 -- Requests for an intermediation, and a cancellation.
-use mathlib.Core.Bool.{Bool, true, false, cond, not, _&&_, _||_}
-use mathlib.Core.List.{List, [], _∷_, _++_, map}
+use mathlib.Core.Bool.{Bool, true, false, cond, _&&_, _||_}
+use mathlib.Core.List.{List, [], _∷_, map}
 use mathlib.Core.Logic.{⊎-elim}
 use mathlib.Core.Path.{_≡_, refl, sym, ap, ap₂, subst, _∙_}
 use Prim.Native.Nat.{ℕ, _<_, zero}
 use native.Mathlib.Omega.{arith}
 use lib.Dec.{eqb}
-use Rattle.std.proofs.shelf.Tests.{cases-bool, eqb-true, and-parts, and-from, not-true, false≢true}
+use Rattle.std.proofs.shelf.Tests.{cases-bool, and-parts, and-from, false≢true}
 use Rattle.std.specs.declared.option.Option.{Option}
 use Rattle.std.specs.declared.option.Option.the-variants.{Some, None}
 use Rattle.fields.specs.declared.answer.Answer.{Answer}
@@ -26,31 +26,25 @@ use Rattle.requests.specs.declared.request.IntermediationCall.{IntermediationCa
 use Rattle.requests.specs.declared.request.NewIntermediation.{NewIntermediation}
 use Rattle.requests.specs.declared.request.Request.the-variants.{Cancel, Intermediate, ConfirmIntermediation, ExcludeIntermediation}
 use Rattle.rows.specs.Accounts.{active, suits, same-kind}
-use Rattle.rows.specs.Trades.{number, allocation, party, in-state, held, is-empty, confirmed, confirmed-if, filled, no-trade, no-intermediation, total, alike, id, leg, has-leg, both-confirmed}
+use Rattle.rows.specs.Allocations.{held, is-empty, confirmed, total}
+use Rattle.rows.specs.Legs.{no-intermediation, id, leg, has-leg}
+use Rattle.rows.specs.Trades.{number, allocation, party, no-trade, both-confirmed}
 use Rattle.rows.specs.declared.row.Allocation.{Allocation}
 use Rattle.rows.specs.declared.row.AllocationState.the-variants.{Empty, Confirmed}
 use Rattle.rows.specs.declared.row.KeptEntry.{KeptEntry}
 use Rattle.rows.specs.declared.row.Trade.{Trade}
 use Rattle.chains.proofs.Keys.{some-of, none-some, seen-kept, each-changed, map-changed, length-changed}
-use Rattle.book.specs.Answers.{reply}
-use Rattle.book.specs.Effects.{excluded, cancelled, placed, whole-entry}
-use Rattle.book.specs.State.{kept-entry, shown, no-account, State, trade, intermediation, at-trade, each-leg, any-leg}
-use Rattle.book.specs.Tests.{own-tests, for-leg, trade-tests, side-tests, test, offered-to, on-side, number-tests, Test}
-use Rattle.law.proofs.Fair.{AllPass, pass-left, pass-right, found, Adds, Sided, touched, Fair, told-number-is, by, by-number, there-left, terms-left, terms-known, held-filled}
+use Rattle.book.specs.Effects.{excluded, cancelled, placed, called-off, marked}
+use Rattle.book.specs.Entries.{whole-entry, kept-entry, shown, no-account, intermediated}
+use Rattle.book.specs.Numbering.{reply}
+use Rattle.book.specs.State.{State, trade, intermediation, at-trade}
+use Rattle.law.proofs.Fair.{found, Adds, Sided, touched, Fair, told-number-is, by, by-number, there-left, terms-left, terms-known, held-filled}
 use Rattle.law.proofs.Legs.{none-left, fair-o, on-leg, confirm-leg, fill-leg, enter-joint, gone-if, holds-if, clear, excluded-fair, excluded-zero, excluded-joints, cancelled-fair}
-use Rattle.law.proofs.OneTrade.{next, filled-state, offered-is}
+use Rattle.law.proofs.OneTrade.{next, filled-state}
+use Rattle.law.proofs.Passed.{Confirms-both, Intermediates, Stands, calling-is}
 use Rattle.law.proofs.Picks.{those-same, any-same, picks, picked-gone, picked-any, passes-if, one-gone, one-any, names-picks}
 use Rattle.law.specs.Law.{told, Chains}
 use Rattle.law.specs.Plain.{Plain, told-number, side-now, sides-of-now, all-gone, names, fed, filled-as, holds-side, Filling, terms-in, empties, fills, leaves}
-use Rattle.fields.specs.declared.ground.Ground.the-variants as ground
-
-imp : (a b : Bool) → (not a || b) ≡ true → a ≡ true → b ≡ true
-imp true b h e = h
-imp false b h e = absurd (false≢true e)
-
-pub each-leg-of : (q : Side → Bool) (x : Intermediation) → each-leg q x ≡ true → (w : Side) → has-leg w x ≡ true → q w ≡ true
-each-leg-of q x h Buyer e = imp (has-leg Buyer x) (q Buyer) (and-parts _ _ h .0) e
-each-leg-of q x h Seller e = imp (has-leg Seller x) (q Seller) (and-parts _ _ h .1) e
 
 emptied-if : (b : Bool) (r : List Listed) (day : ℕ) (m : Terms) (o : Option Filling) → cond b None o ≡ touched (cond b empties leaves) r day m o
 emptied-if true r day m o = refl
@@ -68,9 +62,6 @@ holds-passes (Some x) w n = refl
 changed-same : {Q : Type 0} (key : Q → ℕ) (n : ℕ) (xs : List Q) → changed key n (λ x. x) xs ≡ xs
 changed-same key n [] = refl
 changed-same key n (x ∷ xs) = elim (eqb (key x) n) as (λ b. cond b (x ∷ xs) (x ∷ changed key n (λ y. y) xs) ≡ x ∷ xs) [ true ↦ refl | false ↦ ap (λ ys. x ∷ ys) (changed-same key n xs) ]
-
-abbrev marked : Trade → Trade
-marked t = in-state (t .state) true t
 
 marked-adds : (w : Side) (t : Trade) → Adds w t → Adds w (marked t)
 marked-adds Buyer t a = a
@@ -108,18 +99,14 @@ kind-same Registered Selic e = absurd (false≢true e)
 kind-same Registered Deposited e = absurd (false≢true e)
 kind-same Registered Registered e = refl
 
-pub for-leg-pass : (w : Side) (x : Intermediation) (ts : List Test) → has-leg w x ≡ true → AllPass (for-leg w x ts) → AllPass ts
-for-leg-pass w x ts e p = subst (λ b. AllPass (cond b ts [])) e p
-
 module _ (p : Plain) (o : Side → ℕ → Option Filling) (r : List Listed) (s : State) (f : Fair p o s) (zero : find number 0 (s .trades .rows) ≡ None) where
-  pub confirm-joint-fair : (q : IntermediationCall) (a : Answer) → AllPass (own-tests r s (ConfirmIntermediation q))
+  pub confirm-joint-fair : (q : IntermediationCall) (a : Answer) → Confirms-both r s q
       → Fair (fed p (ConfirmIntermediation q) a) (next p o r (ConfirmIntermediation q) a) (placed r s (ConfirmIntermediation q))
-  unfolding own-tests placed
+  unfolding placed
   confirm-joint-fair q a t =
       let x = intermediation s (q .id) in
-      let here : find id (q .id) (s .intermediations .rows) ≡ Some x = some-of no-intermediation (find id (q .id) (s .intermediations .rows)) (t .0) in
-      let full : (w : Side) → has-leg w x ≡ true → is-empty (allocation w (trade s (leg w x)) .state) ≡ false =
-        λ w e. not-true _ (each-leg-of (λ w. not (is-empty (allocation w (trade s (leg w x)) .state))) x (t .1 .1 .1 .1 .1 .0) w e) in
+      let here : find id (q .id) (s .intermediations .rows) ≡ Some x = some-of no-intermediation (find id (q .id) (s .intermediations .rows)) (t .here) in
+      let full = t .holds in
       let f1 = confirm-leg p o s f zero Buyer (x .bought) (full Buyer) in
       let f2 = confirm-leg _ _ _ f1 (none-left Buyer (x .bought) (λ t. confirmed) (s .trades .rows) 0 zero) Seller (x .sold)
         (λ e. ap (λ (d : Allocation). is-empty (d .state))
@@ -176,14 +163,13 @@ module _ (p : Plain) (o : Side → ℕ → Option Filling) (r : List Listed) (s 
           fair-o _ (λ w m. cond (eqb n m) None (clear (find id st (excluded bt s .intermediations .rows)) (clear (find id bt xs) o) w m)) _ _ u
             (subst (λ y. Fair (side-now Empty Seller n (side-now Empty Buyer n y)) (λ w m. cond (eqb n m) None (clear (find id st (excluded bt s .intermediations .rows)) (clear (find id bt xs) o) w m)) (at-trade n cancelled (excluded st (excluded bt s)))) e f3)
 
-      pub cancel-fair : AllPass (own-tests r s (Cancel q)) → Fair (fed p (Cancel q) (reply r s (Cancel q))) (next p o r (Cancel q) (reply r s (Cancel q))) (placed r s (Cancel q))
-      unfolding own-tests placed
+      pub cancel-fair : Stands s (q .trade) → Fair (fed p (Cancel q) (reply r s (Cancel q))) (next p o r (Cancel q) (reply r s (Cancel q))) (placed r s (Cancel q))
+      unfolding placed
       cancel-fair t = go (both-confirmed (trade s (q .trade)))
         where
-          go : (b : Bool) → Fair (fed p (Cancel q) (cond b Marked (Written 0 0))) (next p o r (Cancel q) (cond b Marked (Written 0 0)))
-            (elim b as (λ y. State) [ true ↦ at-trade (q .trade) (λ t. in-state (t .state) true t) s | false ↦ at-trade (q .trade) cancelled (excluded st (excluded bt s)) ])
+          go : (b : Bool) → Fair (fed p (Cancel q) (cond b Marked (Written 0 0))) (next p o r (Cancel q) (cond b Marked (Written 0 0))) (cond b (at-trade (q .trade) marked s) (called-off (q .trade) (trade s (q .trade)) s))
           go true = marked-fair p o s f (q .trade)
-          go false = cancel-false (t .0) 0 0
+          go false = cancel-false (t .here) 0 0
 
   -- ── Joining ──
 
@@ -195,7 +181,7 @@ module _ (p : Plain) (o : Side → ℕ → Option Filling) (r : List Listed) (s 
     fill n = record { entries = the-share n ∷ []; register = r; day = p .day; terms = terms-in p n }
 
     abbrev pub rule : Trade → Allocation → Allocation
-    rule t d = confirmed-if (q .now) (filled (kept-entry r (whole-entry (q .intermediation .account) t) ∷ []) (q .intermediation .id) d)
+    rule t d = intermediated r (q .intermediation) (q .now) t d
 
     abbrev entries : ℕ → List KeptEntry
     entries n = kept-entry r (the-share n) ∷ []
@@ -213,51 +199,28 @@ module _ (p : Plain) (o : Side → ℕ → Option Filling) (r : List Listed) (s 
     whole-sum : (n : ℕ) (t : Trade) → t .terms .quantity ≡ terms-in p n .quantity → total (map (λ (e : KeptEntry). e .entry) (entries n)) ≡ t .terms .quantity
     whole-sum n t e = omega arith
 
-    abbrev pub leg-tests : Side → ℕ → List Test
-    leg-tests w place = for-leg w (q .intermediation) (trade-tests s place (q .minute) (leg w (q .intermediation)) ++ side-tests s place (q .intermediation .participant) w (leg w (q .intermediation)))
-
-    abbrev tie-test : Side → ℕ → List Test
-    tie-test w place = for-leg w (q .intermediation) (test ground.AccountUntied place (tied-in r (q .intermediation .account) (offered-to (q .intermediation .participant) w (trade s (leg w (q .intermediation))))) ∷ [])
-
-    abbrev opposite-buyer : List Test
-    opposite-buyer = for-leg Buyer (q .intermediation) (test ground.AccountOpposite 1 (not (on-side (λ e. e .account) (q .intermediation .account) (trade s (q .intermediation .bought) .seller))) ∷ [])
-
-    abbrev opposite-seller : List Test
-    opposite-seller = for-leg Seller (q .intermediation) (test ground.AccountOpposite 2 (not (on-side (λ e. e .account) (q .intermediation .account) (trade s (q .intermediation .sold) .buyer))) ∷ [])
-
-    -- what the passed tests say of a leg that is there
-    record Leg (w : Side) : Type 0 where
-      there : is-some (find number (leg w (q .intermediation)) (s .trades .rows)) ≡ true
-      own : party w (trade s (leg w (q .intermediation)) .terms) .participant ≡ q .intermediation .participant
-      tied : tied-in r (q .intermediation .account) (offered-to (q .intermediation .participant) w (trade s (leg w (q .intermediation)))) ≡ true
-      suited : suits (trade s (leg w (q .intermediation)) .terms .kind) (shown r (q .intermediation .account)) ≡ true
-
-    suited-leg : (not (has-leg Buyer (q .intermediation) && has-leg Seller (q .intermediation)) || alike (trade s (q .intermediation .bought) .terms) (trade s (q .intermediation .sold) .terms)) ≡ true
-        → suits (trade s (any-leg (q .intermediation)) .terms .kind) (shown r (q .intermediation .account)) ≡ true
-        → (w : Side) → has-leg w (q .intermediation) ≡ true → suits (trade s (leg w (q .intermediation)) .terms .kind) (shown r (q .intermediation .account)) ≡ true
-    suited-leg same h Buyer e = subst (λ b. suits (trade s (cond b (q .intermediation .bought) (q .intermediation .sold)) .terms .kind) (shown r (q .intermediation .account)) ≡ true) e h
-    suited-leg same h Seller e =
+    suited-leg : Intermediates r s q → (w : Side) → has-leg w (q .intermediation) ≡ true → suits (trade s (leg w (q .intermediation)) .terms .kind) (shown r (q .intermediation .account)) ≡ true
+    suited-leg t Buyer e = subst (λ b. suits (trade s (cond b (q .intermediation .bought) (q .intermediation .sold)) .terms .kind) (shown r (q .intermediation .account)) ≡ true) e (t .suited)
+    suited-leg t Seller e =
         ⊎-elim (λ (i : has-leg Buyer (q .intermediation) ≡ true).
-          let both : (has-leg Buyer (q .intermediation) && has-leg Seller (q .intermediation)) ≡ true = and-from _ _ i e in
-          let like = imp _ (alike (trade s (q .intermediation .bought) .terms) (trade s (q .intermediation .sold) .terms)) same both in
+          let like = t .alike-legs (and-from _ _ i e) in
           let kind = kind-same (trade s (q .intermediation .bought) .terms .kind) (trade s (q .intermediation .sold) .terms .kind) (and-parts _ _ (and-parts _ _ (and-parts _ _ like .0) .0) .0) in
           subst (λ k. suits k (shown r (q .intermediation .account)) ≡ true) kind
-            (subst (λ b. suits (trade s (cond b (q .intermediation .bought) (q .intermediation .sold)) .terms .kind) (shown r (q .intermediation .account)) ≡ true) i h))
-        (λ (i : has-leg Buyer (q .intermediation) ≡ false). subst (λ b. suits (trade s (cond b (q .intermediation .bought) (q .intermediation .sold)) .terms .kind) (shown r (q .intermediation .account)) ≡ true) i h)
+            (subst (λ b. suits (trade s (cond b (q .intermediation .bought) (q .intermediation .sold)) .terms .kind) (shown r (q .intermediation .account)) ≡ true) i (t .suited)))
+        (λ (i : has-leg Buyer (q .intermediation) ≡ false). subst (λ b. suits (trade s (cond b (q .intermediation .bought) (q .intermediation .sold)) .terms .kind) (shown r (q .intermediation .account)) ≡ true) i (t .suited))
         (cases-bool (has-leg Buyer (q .intermediation)))
 
-    leg-good : is-some (account-in r (q .intermediation .account)) ≡ true → active (s .day) (shown r (q .intermediation .account)) ≡ true → (w : Side) → Leg w
-        → Sided (Some (fill (leg w (q .intermediation)))) w (entries (leg w (q .intermediation)))
-    leg-good listed awake w l =
+    leg-good : Intermediates r s q → (w : Side) → has-leg w (q .intermediation) ≡ true → Sided (Some (fill (leg w (q .intermediation)))) w (entries (leg w (q .intermediation)))
+    leg-good t w e =
         let n = leg w (q .intermediation) in
         let known = sym (terms-known p s (f .agrees) n) in
         (refl, (record {
           account = shown r (q .intermediation .account);
-          listed = some-of no-account (account-in r (q .intermediation .account)) listed;
-          active-then = subst (λ d. active d (shown r (q .intermediation .account)) ≡ true) (f .agrees .day) awake;
-          suited = subst (λ (m : Terms). suits (m .kind) (shown r (q .intermediation .account)) ≡ true) known (l .suited);
+          listed = some-of no-account (account-in r (q .intermediation .account)) (t .listed);
+          active-then = subst (λ d. active d (shown r (q .intermediation .account)) ≡ true) (f .agrees .day) (t .awake);
+          suited = subst (λ (m : Terms). suits (m .kind) (shown r (q .intermediation .account)) ≡ true) known (suited-leg t w e);
           tied = subst (λ (m : Terms). tied-in r (q .intermediation .account) (party w m) ≡ true) known
-            (subst (λ y. tied-in r (q .intermediation .account) y ≡ true) (offered-is (q .intermediation .participant) w (trade s n) (l .own)) (l .tied));
+            (subst (λ y. tied-in r (q .intermediation .account) y ≡ true) (calling-is (q .intermediation .participant) w (trade s n .terms) (t .free w e .owner)) (t .tied w e));
           type-kept = refl }, tt))
 
     joined-is : (a : Answer) (w : Side) (m : ℕ)
@@ -265,40 +228,23 @@ module _ (p : Plain) (o : Side → ℕ → Option Filling) (r : List Listed) (s 
     joined-is a Buyer m = filled-if (holds-side Buyer m (q .intermediation)) (the-share m ∷ []) r (p .day) (terms-in p m) (o Buyer m)
     joined-is a Seller m = filled-if (holds-side Seller m (q .intermediation)) (the-share m ∷ []) r (p .day) (terms-in p m) (o Seller m)
 
-    pub join-fair : (a : Answer) → AllPass (own-tests r s (Intermediate q)) → Fair (fed p (Intermediate q) a) (next p o r (Intermediate q) a) (placed r s (Intermediate q))
-    unfolding own-tests placed
+    pub join-fair : (a : Answer) → Intermediates r s q → Fair (fed p (Intermediate q) a) (next p o r (Intermediate q) a) (placed r s (Intermediate q))
+    unfolding placed
     join-fair a t =
-        let legs = pass-left (leg-tests Buyer 1 ++ leg-tests Seller 2) _ (t .1 .1) in
-        let lb = pass-left (leg-tests Buyer 1) (leg-tests Seller 2) legs in
-        let ls = pass-right (leg-tests Buyer 1) (leg-tests Seller 2) legs in
-        let z = pass-right (leg-tests Buyer 1 ++ leg-tests Seller 2) _ (t .1 .1) in
-        let ties = pass-left (tie-test Buyer 1 ++ tie-test Seller 2) opposite-buyer
-          (pass-left (tie-test Buyer 1 ++ tie-test Seller 2 ++ opposite-buyer) opposite-seller
-          (pass-left (tie-test Buyer 1 ++ tie-test Seller 2 ++ opposite-buyer ++ opposite-seller) (number-tests r s (Intermediate q)) (z .1 .1 .1 .1 .1))) in
-        let tb = pass-left (tie-test Buyer 1) (tie-test Seller 2) ties in
-        let ts = pass-right (tie-test Buyer 1) (tie-test Seller 2) ties in
-        let fit = suited-leg (z .0) (and-parts _ _ (z .1 .1 .1 .1 .0) .0) in
-        let b : has-leg Buyer (q .intermediation) ≡ true → Leg Buyer = λ e.
-          let l = for-leg-pass Buyer (q .intermediation) _ e lb in
-          record { there = l .0; own = eqb-true _ _ (l .1 .1 .1 .1 .0); tied = for-leg-pass Buyer (q .intermediation) _ e tb .0; suited = fit Buyer e } in
-        let c : has-leg Seller (q .intermediation) ≡ true → Leg Seller = λ e.
-          let l = for-leg-pass Seller (q .intermediation) _ e ls in
-          record { there = l .0; own = eqb-true _ _ (l .1 .1 .1 .1 .0); tied = for-leg-pass Seller (q .intermediation) _ e ts .0; suited = fit Seller e } in
-        let good = leg-good (z .1 .1 .0) (z .1 .1 .1 .0) in
         let n = q .intermediation .bought in
         let m = q .intermediation .sold in
         let us = changed number n (by Buyer rule) (s .trades .rows) in
         let f0 = enter-joint p o s f (q .intermediation) in
         let f1 = fill-leg _ o _ f0 zero Buyer n rule (filled-as (q .now)) fill (entries n)
           (λ t d. filled-state (q .now) (kept-entry r (whole-entry (q .intermediation .account) t) ∷ []) (q .intermediation .id) d)
-          (λ e. b e .there)
+          (λ e. t .free Buyer e .trade .here)
           (λ t e. rule-holds Buyer n t (quantity-known (s .trades .rows) n refl t e))
           (λ t e. whole-sum n t (quantity-known (s .trades .rows) n refl t e))
-          (λ e. good Buyer (b e)) in
+          (leg-good t Buyer) in
         let f2 = fill-leg _ _ _ f1 (none-left Buyer n rule (s .trades .rows) 0 zero) Seller m rule (filled-as (q .now)) fill (entries m)
           (λ t d. filled-state (q .now) (kept-entry r (whole-entry (q .intermediation .account) t) ∷ []) (q .intermediation .id) d)
-          (λ e. there-left Buyer n rule (s .trades .rows) m ∙ c e .there)
+          (λ e. there-left Buyer n rule (s .trades .rows) m ∙ t .free Seller e .trade .here)
           (λ t e. rule-holds Seller m t (quantity-known us m (terms-left Buyer n rule (s .trades .rows) m) t e))
           (λ t e. whole-sum m t (quantity-known us m (terms-left Buyer n rule (s .trades .rows) m) t e))
-          (λ e. good Seller (c e)) in
+          (leg-good t Seller) in
         fair-o _ _ (next p o r (Intermediate q) a) _ (joined-is a) f2

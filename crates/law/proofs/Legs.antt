@@ -12,14 +12,16 @@ use Rattle.fields.specs.declared.trade.Side.{Side}
 use Rattle.fields.specs.declared.trade.Side.the-variants.{Buyer, Seller}
 use Rattle.keyed.specs.Lists.{or-else, is-some}
 use Rattle.keyed.specs.Rows.{find, changed, removed, entered, entered-in, removed-in}
-use Rattle.rows.specs.Trades.{number, allocation, at-side, held, is-empty, emptied, confirmed, no-trade, total, id}
+use Rattle.rows.specs.Allocations.{held, is-empty, emptied, confirmed, total}
+use Rattle.rows.specs.Legs.{id}
+use Rattle.rows.specs.Trades.{number, allocation, at-side, no-trade}
 use Rattle.rows.specs.declared.row.Allocation.{Allocation}
 use Rattle.rows.specs.declared.row.AllocationState.{AllocationState}
 use Rattle.rows.specs.declared.row.AllocationState.the-variants.{Empty, Confirmed}
 use Rattle.rows.specs.declared.row.KeptEntry.{KeptEntry}
 use Rattle.rows.specs.declared.row.Trade.{Trade}
 use Rattle.chains.proofs.Keys.{none-some, row-found, length-entered, length-removed, removed-absent, seen-put, each-changed, map-changed, changed-twice, length-changed}
-use Rattle.book.specs.Effects.{excluded, cancelled}
+use Rattle.book.specs.Effects.{excluded, cancelled, excluded-by}
 use Rattle.book.specs.State.{State, trade, at-trade, with-intermediations}
 use Rattle.law.proofs.Fair.{held-in, Adds, Sided, Fair, told-number-is, by, there-left, held-kept, held-leg, adds-at, agrees-at, held-confirmed, same-side}
 use Rattle.law.specs.Law.{told}
@@ -110,20 +112,9 @@ holds-if (Some x) w n = holds-side w n x
 abbrev pub clear : Option Intermediation → (Side → ℕ → Option Filling) → Side → ℕ → Option Filling
 clear x o w n = cond (holds-if x w n) None (o w n)
 
-abbrev pub excluded-by : Option Intermediation → ℕ → State → State
-excluded-by None k s = s
-excluded-by (Some x) k s = with-intermediations (removed-in id k) (at-trade (x .sold) (at-side Seller emptied) (at-trade (x .bought) (at-side Buyer emptied) s))
-
 pub excluded-is : (k : ℕ) (s : State) → excluded k s ≡ excluded-by (find id k (s .intermediations .rows)) k s
 unfolding excluded
-excluded-is k s = go (find id k (s .intermediations .rows))
-  where
-    go : (x : Option Intermediation) → elim x as (λ y. State) [
-        None ↦ s
-      | Some x ↦ with-intermediations (removed-in id k) (at-trade (x .sold) (at-side Seller emptied) (at-trade (x .bought) (at-side Buyer emptied) s)) ]
-      ≡ excluded-by x k s
-    go None = refl
-    go (Some x) = refl
+excluded-is k s = refl
 
 cleared-is : (x : Intermediation) (o : Side → ℕ → Option Filling) (w : Side) (m : ℕ)
     → cond (on-leg Seller (x .sold) w m) None (cond (on-leg Buyer (x .bought) w m) None (o w m)) ≡ cond (holds-side w m x) None (o w m)

@@ -17,6 +17,7 @@ pub mod Joints
 pub mod Kept
 pub mod Legs
 pub mod OneTrade
+pub mod Passed
 pub mod Opens
 pub mod PairLaw
 pub mod Picks

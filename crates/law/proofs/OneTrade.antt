@@ -1,49 +1,46 @@
 -- Requests for one trade: a capture, an inclusion, a removal, a confirmation; and a closing.
-use mathlib.Core.Bool.{Bool, true, false, cond, not, _&&_}
-use mathlib.Core.List.{List, [], _∷_, _++_, map}
+use mathlib.Core.Bool.{Bool, true, false, cond, _&&_}
+use mathlib.Core.List.{List, [], map}
 use mathlib.Core.Logic.{⊎-elim}
 use mathlib.Core.Path.{_≡_, refl, sym, ap, subst, subst₂, _∙_}
 use Prim.Native.Nat.{ℕ, _+_}
 use lib.Dec.{eqb}
-use Rattle.std.proofs.shelf.Tests.{cases-eq, eqb-true, ne-eqb, eq-eqb, and-parts, not-true, false≢true, true≢false}
+use Rattle.std.proofs.shelf.Tests.{cases-eq, eqb-true, ne-eqb, eq-eqb, and-parts, true≢false}
 use Rattle.std.specs.declared.option.Option.{Option}
 use Rattle.std.specs.declared.option.Option.the-variants.{Some, None}
-use Rattle.fields.specs.declared.account.Party.{Party}
 use Rattle.fields.specs.declared.answer.Answer.{Answer}
-use Rattle.fields.specs.declared.trade.Entry.{Entry}
 use Rattle.fields.specs.declared.trade.Side.{Side}
 use Rattle.fields.specs.declared.trade.Side.the-variants.{Buyer, Seller}
 use Rattle.fields.specs.declared.trade.Terms.{Terms}
-use Rattle.keyed.specs.Lists.{or-else, is-some}
+use Rattle.keyed.specs.Lists.{or-else}
 use Rattle.keyed.specs.Members.{Each}
 use Rattle.keyed.specs.Rows.{find, entered}
-use Rattle.register.specs.Meaning.{Listed, account-in, tied-in}
+use Rattle.register.specs.Meaning.{Listed}
 use Rattle.requests.specs.declared.request.Closing.{Closing}
 use Rattle.requests.specs.declared.request.Inclusion.{Inclusion}
 use Rattle.requests.specs.declared.request.NewTrade.{NewTrade}
 use Rattle.requests.specs.declared.request.Request.{Request}
 use Rattle.requests.specs.declared.request.Request.the-variants.{Capture, Include, Remove, Confirm, Close}
 use Rattle.requests.specs.declared.request.SideCall.{SideCall}
-use Rattle.rows.specs.Trades.{number, allocation, party, held, is-empty, filled, emptied, confirmed, confirmed-if, no-trade, captured, total}
+use Rattle.rows.specs.Allocations.{held, is-empty, filled, emptied, confirmed, confirmed-if, total}
+use Rattle.rows.specs.Trades.{number, allocation, no-trade, captured}
 use Rattle.rows.specs.declared.row.Allocation.{Allocation}
 use Rattle.rows.specs.declared.row.AllocationState.the-variants.{Empty, Confirmed}
 use Rattle.rows.specs.declared.row.KeptEntry.{KeptEntry}
 use Rattle.rows.specs.declared.row.Trade.{Trade}
+use Rattle.chains.proofs.Found.{none-by}
 use Rattle.chains.proofs.Keys.{some-of, none-some, row-entered, each-entered, length-entered, map-entered}
 use Rattle.book.specs.Effects.{placed}
-use Rattle.book.specs.State.{kept-entry, shown, no-account, State, trade, entries-of}
-use Rattle.book.specs.Tests.{own-tests, all-entry-tests, offered-to, Test}
-use Rattle.law.proofs.Fair.{AllPass, pass-right, held-in, Adds, Sided, touched, sided-if, Fair, told-number-is, held-put, held-kept, adds-at, agrees-at, terms-known, held-filled, held-confirmed, shares-kept, same-side}
+use Rattle.book.specs.Entries.{kept-entry, entries-of, included}
+use Rattle.book.specs.State.{State, trade}
+use Rattle.law.proofs.Fair.{held-in, Adds, Sided, touched, sided-if, Fair, told-number-is, held-put, held-kept, adds-at, agrees-at, terms-known, held-filled, held-confirmed, shares-kept, same-side}
+use Rattle.law.proofs.Passed.{Captures, Confirms, Includes}
 use Rattle.law.specs.Law.{Entitled, told}
 use Rattle.law.specs.Plain.{Plain, fed, told-number, filled-as, touch, is-side, Filling, terms-in, empties, fills}
 
 -- the last filling after an accepted request
 abbrev pub next : Plain → (Side → ℕ → Option Filling) → List Listed → Request → Answer → Side → ℕ → Option Filling
 next p o r q a w n = touched (touch p q a w n) r (p .day) (terms-in p n) (o w n)
-
-pub none-there : {X : Type 0} (o : Option X) → not (is-some o) ≡ true → o ≡ None
-none-there None e = refl
-none-there (Some x) e = absurd (false≢true e)
 
 pub found-is : (s : State) (n : ℕ) (t : Trade) → find number n (s .trades .rows) ≡ Some t → trade s n ≡ t
 found-is s n t e = ap (or-else no-trade) e
@@ -69,33 +66,15 @@ entered-holds ts t e w n =
     (λ (i : t .number ≡ n → ⊥). ap (λ o. held (allocation w (or-else no-trade o))) (sym (row-entered number (captured t) ts n e ∙ ap (λ b. cond b (Some (captured t)) (find number n ts)) (ne-eqb _ _ i))))
     (cases-eq (t .number) n)
 
--- ── Entries that passed ──
-
-pub offered-is : (caller : ℕ) (w : Side) (t : Trade) → party w (t .terms) .participant ≡ caller → offered-to caller w t ≡ party w (t .terms)
-offered-is caller w t e = ap (λ (c : ℕ). let x : Party = record { participant = c; offeror = party w (t .terms) .offeror } in x) (sym e)
-
-pub entitled-all : (r : List Listed) (day caller : ℕ) (w : Side) (t : Trade) (place : ℕ) (es : List Entry) (us : List Test) → party w (t .terms) .participant ≡ caller
-    → AllPass (all-entry-tests r day caller w t place es ++ us) → Each (Entitled r day (t .terms) w) (map (kept-entry r) es)
-entitled-all r day caller w t place [] us own p = tt
-entitled-all r day caller w t place (e ∷ es) us own p =
-    (record {
-      account = shown r (e .account);
-      listed = some-of no-account (account-in r (e .account)) (p .0);
-      active-then = p .1 .0;
-      suited = p .1 .1 .0;
-      tied = subst (λ x. tied-in r (e .account) x ≡ true) (offered-is caller w t own) (p .1 .1 .1 .0);
-      type-kept = refl },
-    entitled-all r day caller w t (place + 1) es us own (p .1 .1 .1 .1 .1 .1))
-
 pub filled-state : (now : Bool) (es : List KeptEntry) (tie : ℕ) (d : Allocation) → confirmed-if now (filled es tie d) .state ≡ filled-as now
 filled-state true es tie d = refl
 filled-state false es tie d = refl
 
 module _ (p : Plain) (o : Side → ℕ → Option Filling) (r : List Listed) (s : State) (f : Fair p o s) where
-  pub capture-fair : (q : NewTrade) (a : Answer) → AllPass (own-tests r s (Capture q)) → Fair (fed p (Capture q) a) (next p o r (Capture q) a) (placed r s (Capture q))
-  unfolding own-tests placed
+  pub capture-fair : (q : NewTrade) (a : Answer) → Captures s q → Fair (fed p (Capture q) a) (next p o r (Capture q) a) (placed r s (Capture q))
+  unfolding placed
   capture-fair q a t =
-      let e = none-there (find number (q .terms .number) (s .trades .rows)) (t .0) in
+      let e = none-by (find number (q .terms .number) (s .trades .rows)) (t .absent) in
       let g = f .agrees in
       let c : Trade = captured (q .terms) in
       record {
@@ -122,10 +101,10 @@ module _ (p : Plain) (o : Side → ℕ → Option Filling) (r : List Listed) (s 
       → held (confirmed (allocation v t)) ≡ held (allocation v t)
   confirm-held v n t e h = held-confirmed (allocation v t) (ap (λ (x : Trade). is-empty (allocation v x .state)) (sym (found-is s n t e)) ∙ h)
 
-  pub confirm-fair : (q : SideCall) (a : Answer) → AllPass (own-tests r s (Confirm q)) → Fair (fed p (Confirm q) a) (next p o r (Confirm q) a) (placed r s (Confirm q))
-  unfolding own-tests placed
+  pub confirm-fair : (q : SideCall) (a : Answer) → Confirms r s q → Fair (fed p (Confirm q) a) (next p o r (Confirm q) a) (placed r s (Confirm q))
+  unfolding placed
   confirm-fair q a t =
-      let h : is-empty (allocation (q .side) (trade s (q .trade)) .state) ≡ false = not-true _ (t .1 .1 .1 .1 .1 .1 .1 .0) in
+      let h = t .holds in
       record {
         agrees = agrees-at (q .side) (q .trade) (λ t. confirmed) Confirmed (λ t d. refl) p s (f .agrees);
         sided = λ w n. subst (λ es. Sided (o w n) w es)
@@ -134,18 +113,16 @@ module _ (p : Plain) (o : Side → ℕ → Option Filling) (r : List Listed) (s 
           ap (λ es. total (map (λ (e : KeptEntry). e .entry) es)) (confirm-held (q .side) (q .trade) t e h)
           ∙ k (ap (λ (x : Trade). is-empty (allocation (q .side) x .state)) (sym (found-is s (q .trade) t e)) ∙ h)) (f .adds) }
 
-  pub include-fair : (q : Inclusion) (a : Answer) → AllPass (own-tests r s (Include q)) → Fair (fed p (Include q) a) (next p o r (Include q) a) (placed r s (Include q))
-  unfolding own-tests placed
+  pub include-fair : (q : Inclusion) (a : Answer) → Includes r s q → Fair (fed p (Include q) a) (next p o r (Include q) a) (placed r s (Include q))
+  unfolding placed
   include-fair q a t =
       let n = q .trade in
       let v = q .side in
       let es = map (kept-entry r) (entries-of q) in
-      let own : party v (trade s n .terms) .participant ≡ q .participant = eqb-true _ _ (t .1 .1 .1 .1 .0) in
-      let here : find number n (s .trades .rows) ≡ Some (trade s n) = some-of no-trade (find number n (s .trades .rows)) (t .0) in
-      let good = entitled-all r (s .day) (q .participant) v (trade s n) 1 (entries-of q) _ own (t .1 .1 .1 .1 .1 .1 .1) in
-      let sums : total (entries-of q) ≡ trade s n .terms .quantity =
-        eqb-true _ _ (pass-right (all-entry-tests r (s .day) (q .participant) v (trade s n) 1 (entries-of q)) _ (t .1 .1 .1 .1 .1 .1 .1) .0) in
-      let rule : Trade → Allocation → Allocation = λ t d. confirmed-if (q .now) (filled es 0 d) in
+      let here : find number n (s .trades .rows) ≡ Some (trade s n) = some-of no-trade (find number n (s .trades .rows)) (t .free .trade .here) in
+      let good = t .entitled in
+      let sums = t .sums in
+      let rule : Trade → Allocation → Allocation = λ t. included r q in
       let fills-it : Sided (touched (fills (entries-of q)) r (p .day) (terms-in p n) (o v n)) v es =
         (shares-kept r (entries-of q), subst₂ (λ day m. Each (Entitled r day m v) es) (f .agrees .day) (sym (terms-known p s (f .agrees) n)) good) in
       record {

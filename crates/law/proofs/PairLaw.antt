@@ -11,10 +11,10 @@ use Rattle.fields.specs.declared.trade.Side.the-variants.{Buyer}
 use Rattle.keyed.specs.Lists.{those, is-some}
 use Rattle.keyed.specs.Members.{Each, In}
 use Rattle.keyed.specs.Rows.{find}
+use Rattle.rows.specs.Allocations.{entries-held}
 use Rattle.rows.specs.Trades.{both-confirmed, number}
 use Rattle.chains.proofs.Lists.{each-map, each-append, each-in, from-in, those-none, none-those}
 use Rattle.chains.specs.Paired.{Paired}
-use Rattle.book.specs.Numbering.{entries-held}
 use Rattle.book.specs.Runs.{History, Beginning}
 use Rattle.book.specs.State.{State, trade}
 use Rattle.law.proofs.Histories.{naming, All-name, pairs-new, pairs-kept, Counted}

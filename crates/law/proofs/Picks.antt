@@ -15,7 +15,8 @@ use Rattle.fields.specs.declared.trade.Side.the-variants.{Buyer, Seller}
 use Rattle.keyed.specs.Lists.{or-else, those, any}
 use Rattle.keyed.specs.Members.{In}
 use Rattle.keyed.specs.Rows.{find, changed, removed, rises-above}
-use Rattle.rows.specs.Trades.{number, allocation, no-trade, id, leg}
+use Rattle.rows.specs.Legs.{id, leg}
+use Rattle.rows.specs.Trades.{number, allocation, no-trade}
 use Rattle.rows.specs.declared.row.AllocationState.the-variants.{Empty}
 use Rattle.rows.specs.declared.row.Trade.{Trade}
 use Rattle.chains.proofs.Keys.{some-same, none-some, each-in, each-row, row-found, row-in, below-absent, removed-absent, removed-none, removed-swap, changed-swap}

@@ -10,7 +10,9 @@ use Rattle.fields.specs.declared.trade.Side.the-variants.{Buyer, Seller}
 use Rattle.fields.specs.declared.trade.Terms.{Terms}
 use Rattle.keyed.specs.Lists.{or-else, is-some}
 use Rattle.keyed.specs.Rows.{find, changed}
-use Rattle.rows.specs.Trades.{number, id, allocation, other, is-cancelled, is-numbered, no-trade, no-intermediation}
+use Rattle.rows.specs.Allocations.{other}
+use Rattle.rows.specs.Legs.{id, no-intermediation}
+use Rattle.rows.specs.Trades.{number, allocation, is-cancelled, is-numbered, no-trade}
 use Rattle.rows.specs.declared.row.AllocationState.{AllocationState}
 use Rattle.rows.specs.declared.row.Trade.{Trade}
 use Rattle.chains.proofs.Found.{put-map, put-same, still-there, look-put}

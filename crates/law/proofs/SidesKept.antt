@@ -1,12 +1,11 @@
 -- Every request keeps the agreement with the plain book and the law of the sides.
 use mathlib.Core.Bool.{true}
 use mathlib.Core.List.{List, _∷_}
-use mathlib.Core.Path.{_≡_, refl, sym}
+use mathlib.Core.Path.{_≡_, sym}
 use Prim.Native.Nat.{ℕ}
 use native.Mathlib.Omega.{arith}
-use Rattle.std.proofs.shelf.Tests.{and-parts}
 use Rattle.std.specs.declared.option.Option.{Option}
-use Rattle.std.specs.declared.option.Option.the-variants.{Some, None}
+use Rattle.std.specs.declared.option.Option.the-variants.{None}
 use Rattle.std.specs.declared.result.Result.the-variants.{Ok, Err}
 use Rattle.fields.specs.declared.answer.Refusal.{Refusal}
 use Rattle.fields.specs.declared.trade.Pair.{Pair}
@@ -15,53 +14,36 @@ use Rattle.keyed.specs.Rows.{find, rises-above}
 use Rattle.register.specs.Meaning.{Listed}
 use Rattle.requests.specs.declared.request.Request.{Request}
 use Rattle.requests.specs.declared.request.Request.the-variants.{Capture, Cancel, Include, Remove, Confirm, Intermediate, ConfirmIntermediation, ExcludeIntermediation, Close}
-use Rattle.rows.specs.Trades.{number, id}
+use Rattle.rows.specs.Legs.{id}
+use Rattle.rows.specs.Trades.{number}
 use Rattle.chains.proofs.Keys.{below-absent}
-use Rattle.book.specs.Answers.{reply}
 use Rattle.book.specs.Effects.{placed}
-use Rattle.book.specs.Numbering.{effect, completed}
-use Rattle.book.specs.Runs.{Event, History, Call, event}
+use Rattle.book.specs.Numbering.{reply, effect, completed}
+use Rattle.book.specs.Runs.{Event, History}
 use Rattle.book.specs.State.{State}
-use Rattle.book.specs.Steps.{Outcome, first-refusal, outcome, step}
-use Rattle.book.specs.Tests.{tests, field-tests, own-tests, whole-tables}
-use Rattle.law.proofs.Fair.{AllPass, all-pass, pass-right, Fair, last-is, fair-sides, fair-from, numbering-fair}
+use Rattle.law.proofs.Fair.{Fair, last-is, fair-sides, fair-from, numbering-fair}
 use Rattle.law.proofs.Joints.{confirm-joint-fair, exclude-fair, cancel-fair, join-fair}
 use Rattle.law.proofs.Legs.{fair-o}
 use Rattle.law.proofs.OneTrade.{next, capture-fair, include-fair, remove-fair, confirm-fair, close-fair}
+use Rattle.law.proofs.Passed.{Own, Passed}
 use Rattle.law.specs.Law.{Agrees, Sides, Chains}
 use Rattle.law.specs.Plain.{Plain, plain, fed, Filling, last-filling}
 
 -- ── What 4 says ──
 
-pub whole-passed : (r : List Listed) (s : State) (q : Request) → AllPass (tests r s q) → whole-tables s ≡ true
-unfolding tests
-whole-passed r s q t = pass-right (field-tests q) _ t .0
-
-pub own-passed : (r : List Listed) (s : State) (q : Request) → AllPass (tests r s q) → AllPass (own-tests r s q)
-unfolding tests
-own-passed r s q t = pass-right (field-tests q) _ t .1
-
-pub numbers-rise : (s : State) → whole-tables s ≡ true → rises-above number 0 (s .trades .rows) ≡ true
-unfolding whole-tables
-numbers-rise s h = and-parts _ _ (and-parts _ _ (and-parts _ _ (and-parts _ _ h .0) .0) .0) .1
-
-pub ids-rise : (s : State) → whole-tables s ≡ true → rises-above id 0 (s .intermediations .rows) ≡ true
-unfolding whole-tables
-ids-rise s h = and-parts _ _ (and-parts _ _ h .0) .1
-
 -- ── An accepted request ──
 
-pub placed-fair : (p : Plain) (o : Side → ℕ → Option Filling) (r : List Listed) (s : State) → Fair p o s → Chains s → (q : Request) → AllPass (tests r s q)
+pub placed-fair : (p : Plain) (o : Side → ℕ → Option Filling) (r : List Listed) (s : State) → Fair p o s → Chains s → (q : Request) → Passed r s q
     → Fair (fed p q (reply r s q)) (next p o r q (reply r s q)) (placed r s q)
-placed-fair p o r s f c q t = go q (own-passed r s q t)
+placed-fair p o r s f c q t = go q (t .own)
   where
     zero : find number 0 (s .trades .rows) ≡ None
-    zero = below-absent number 0 0 (s .trades .rows) (numbers-rise s (whole-passed r s q t)) (omega arith)
+    zero = below-absent number 0 0 (s .trades .rows) (t .tables .numbers-rise) (omega arith)
 
     ids : rises-above id 0 (s .intermediations .rows) ≡ true
-    ids = ids-rise s (whole-passed r s q t)
+    ids = t .tables .ids-rise
 
-    go : (q : Request) → AllPass (own-tests r s q) → Fair (fed p q (reply r s q)) (next p o r q (reply r s q)) (placed r s q)
+    go : (q : Request) → Own r s q → Fair (fed p q (reply r s q)) (next p o r q (reply r s q)) (placed r s q)
     go (Capture q) t = capture-fair p o r s f q (reply r s (Capture q)) t
     go (Cancel q) t = cancel-fair p o r s f zero ids c q t
     go (Include q) t = include-fair p o r s f q (reply r s (Include q)) t
@@ -72,7 +54,7 @@ placed-fair p o r s f c q t = go q (own-passed r s q t)
     go (ExcludeIntermediation q) t = exclude-fair p o r s f zero ids q (reply r s (ExcludeIntermediation q))
     go (Close q) t = close-fair p o r s f q (reply r s (Close q))
 
-pub effect-fair : (p : Plain) (o : Side → ℕ → Option Filling) (r : List Listed) (s : State) → Fair p o s → Chains s → (q : Request) → AllPass (tests r s q)
+pub effect-fair : (p : Plain) (o : Side → ℕ → Option Filling) (r : List Listed) (s : State) → Fair p o s → Chains s → (q : Request) → Passed r s q
     → Fair (fed p q (reply r s q)) (next p o r q (reply r s q)) (effect r s q)
 unfolding effect
 effect-fair p o r s f c q t = numbering-fair (fed p q (reply r s q)) (next p o r q (reply r s q)) (completed r s q) (placed r s q) (placed-fair p o r s f c q t)
@@ -82,7 +64,7 @@ pub record Kept (day : ℕ) (h : History) (s : State) : Type 0 where
   pub agrees : Agrees (plain day h) s
   pub sides : Sides day h s
 
-pub accepted : (day : ℕ) (h : History) (r : List Listed) (s : State) (q : Request) (ps : List Pair) → Chains s → Kept day h s → AllPass (tests r s q)
+pub accepted : (day : ℕ) (h : History) (r : List Listed) (s : State) (q : Request) (ps : List Pair) → Chains s → Kept day h s → Passed r s q
     → Kept day (record { asked = q; register = r; answered = Ok (reply r s q); wrote = ps } ∷ h) (effect r s q)
 unfolding plain
 accepted day h r s q ps c k t =
@@ -96,15 +78,3 @@ pub refused : (day : ℕ) (h : History) (r : List Listed) (s : State) (q : Reque
     → Kept day (record { asked = q; register = r; answered = Err x; wrote = ps } ∷ h) s
 unfolding plain last-filling
 refused day h r s q x ps k = record { agrees = k .agrees; sides = record { holds = k .sides .holds; entitled = k .sides .entitled; adds-up = k .sides .adds-up } }
-
--- ── Every request ──
-
-pub step-kept : (day : ℕ) (h : History) (s : State) (c : Call) → Chains s → Kept day h s
-    → (let o : Outcome = step (c .register) s (c .asked) in Kept day (event c (o .answer) (o .after) ∷ h) (o .after))
-unfolding step
-step-kept day h s c chains k = go (first-refusal (tests (c .register) s (c .asked))) refl
-  where
-    go : (x : Option Refusal) → first-refusal (tests (c .register) s (c .asked)) ≡ x
-      → Kept day (event c (outcome x (c .register) s (c .asked) .answer) (outcome x (c .register) s (c .asked) .after) ∷ h) (outcome x (c .register) s (c .asked) .after)
-    go (Some x) e = refused day h (c .register) s (c .asked) x _ k
-    go None e = accepted day h (c .register) s (c .asked) _ chains k (all-pass _ e)

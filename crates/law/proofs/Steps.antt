@@ -7,7 +7,8 @@ use Prim.Native.Nat.{ℕ, _≤_, _<_}
 use native.Mathlib.Omega.{arith}
 use lib.ListN.{length}
 use Rattle.std.proofs.shelf.Tests.{cases-eq, ne-eqb, eq-eqb, both-ways, and-parts, false≢true}
-use Rattle.std.specs.declared.option.Option.the-variants.{Some, None}
+use Rattle.std.specs.declared.option.Option.the-variants.{Some}
+use Rattle.fields.specs.Ranges.{numbers}
 use Rattle.fields.specs.declared.trade.Entry.{Entry}
 use Rattle.fields.specs.declared.trade.Side.{Side}
 use Rattle.fields.specs.declared.trade.Side.the-variants.{Buyer, Seller}
@@ -17,7 +18,8 @@ use Rattle.keyed.specs.Rows.{Table, find}
 use Rattle.register.specs.Meaning.{Listed}
 use Rattle.requests.specs.declared.request.Request.{Request}
 use Rattle.requests.specs.declared.request.Request.the-variants.{Capture, Cancel, Include, Remove, Confirm, Intermediate, ConfirmIntermediation, ExcludeIntermediation, Close}
-use Rattle.rows.specs.Trades.{number, is-empty, is-confirmed, numbered, total}
+use Rattle.rows.specs.Allocations.{is-empty, is-confirmed, total, entries-held}
+use Rattle.rows.specs.Trades.{number, numbered}
 use Rattle.rows.specs.declared.row.AllocationState.{AllocationState}
 use Rattle.rows.specs.declared.row.AllocationState.the-variants.{Empty, Allocated, Confirmed}
 use Rattle.rows.specs.declared.row.Trade.{Trade}
@@ -27,11 +29,9 @@ use Rattle.chains.proofs.Ties.{first-is}
 use Rattle.chains.proofs.Walk.{Not0, far, joined}
 use Rattle.chains.proofs.Walks.{far-stops, far-far, far-not0, member}
 use Rattle.chains.specs.Following.{last-of}
-use Rattle.book.specs.Numbering.{chain-matches, entries-held, issuer, new-pairs, all-numbered, numbering, confirms-in}
+use Rattle.book.specs.Numbering.{chain-matches, issuer, new-pairs, all-numbered, numbering, confirms-in}
 use Rattle.book.specs.Runs.{History, Beginning}
 use Rattle.book.specs.State.{State, trade}
-use Rattle.book.specs.Steps.{first-refusal}
-use Rattle.book.specs.Tests.{tests}
 use Rattle.law.proofs.Accepts.{Sound, Ends-hold, walk-in}
 use Rattle.law.proofs.Bridge.{joined-yes, joined-no}
 use Rattle.law.proofs.ChainLaw.{chains}
@@ -39,12 +39,13 @@ use Rattle.law.proofs.ChainRows.{Found}
 use Rattle.law.proofs.Chained.{tie-at, ahead, tr-number}
 use Rattle.law.proofs.Completed.{paired-after, at-confirmed, final-last}
 use Rattle.law.proofs.Completes.{Confirming, conf-half, conf-there, conf-walk, conf-none, conf-here, conf-open, conf-line, conf-first, numbering-view}
-use Rattle.law.proofs.Events.{Unnumbered, Enough, enough-include, enough-confirm, enough-join, enough-joint}
+use Rattle.law.proofs.Events.{Unnumbered}
 use Rattle.law.proofs.Fair.{Adds}
 use Rattle.law.proofs.Froze.{Same, same-self, same-then, Frozen, frozen-then, changed-alike, same-next, stays, was-full}
 use Rattle.law.proofs.Fulls.{behind, num-full, full-num}
 use Rattle.law.proofs.Histories.{Counted, counted-of, All-name}
 use Rattle.law.proofs.PairLaw.{Full, pairs-unchanged, pairs-written, chain-same}
+use Rattle.law.proofs.Passed.{Enough, Passed}
 use Rattle.law.proofs.Placed.{Leaves}
 use Rattle.law.proofs.Quantities.{Sound-trade}
 use Rattle.law.proofs.Shown.{tr, ends, view}
@@ -72,14 +73,14 @@ ends-hold p sound adds m z c =
 
 -- ── A request that may complete a chain has numbers enough ──
 
-pub enough : (r : List Listed) (s : State) (q : Request) → first-refusal (tests r s q) ≡ None → (n : ℕ) → confirms-in s q ≡ Some n → Enough r s q
+pub enough : (r : List Listed) (s : State) (q : Request) → Passed r s q → (n : ℕ) → confirms-in s q ≡ Some n → Enough r s q
 enough r s (Capture q) e n c = absurd (some-not n (sym c))
 enough r s (Cancel q) e n c = absurd (some-not n (sym c))
-enough r s (Include q) e n c = enough-include r s q e
+enough r s (Include q) e n c = e .own .enough
 enough r s (Remove q) e n c = absurd (some-not n (sym c))
-enough r s (Confirm q) e n c = enough-confirm r s q e
-enough r s (Intermediate q) e n c = enough-join r s q e
-enough r s (ConfirmIntermediation q) e n c = enough-joint r s q e
+enough r s (Confirm q) e n c = e .own .enough
+enough r s (Intermediate q) e n c = e .own .enough
+enough r s (ConfirmIntermediation q) e n c = e .own .enough
 enough r s (ExcludeIntermediation q) e n c = absurd (some-not n (sym c))
 enough r s (Close q) e n c = absurd (some-not n (sym c))
 

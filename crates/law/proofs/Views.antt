@@ -6,7 +6,7 @@ use Prim.Native.Nat.{ℕ}
 use lib.Dec.{eqb}
 use Rattle.fields.specs.declared.trade.Kind.{Kind}
 use Rattle.fields.specs.declared.trade.Kind.the-variants.{Selic}
-use Rattle.rows.specs.Trades.{is-confirmed}
+use Rattle.rows.specs.Allocations.{is-confirmed}
 use Rattle.rows.specs.declared.row.AllocationState.{AllocationState}
 use Rattle.rows.specs.declared.row.AllocationState.the-variants.{Empty}
 use Rattle.chains.proofs.Walk.{put, Not0, far, whole, Pair, joined, Half, Numbered}

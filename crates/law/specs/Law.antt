@@ -23,11 +23,12 @@ use Rattle.keyed.specs.Members.{Each, In}
 use Rattle.keyed.specs.Rows.{find}
 use Rattle.register.specs.Meaning.{Listed, account-in, tied-in}
 use Rattle.rows.specs.Accounts.{active, is-selic, suits}
-use Rattle.rows.specs.Trades.{alike, allocation, both-confirmed, held, id, is-empty, leg, number, party, total}
+use Rattle.rows.specs.Allocations.{held, is-empty, total, entries-held}
+use Rattle.rows.specs.Legs.{id, leg}
+use Rattle.rows.specs.Trades.{alike, allocation, both-confirmed, number, party}
 use Rattle.rows.specs.declared.row.KeptEntry.{KeptEntry}
 use Rattle.rows.specs.declared.row.Trade.{Trade}
 use Rattle.chains.specs.Paired.{Paired}
-use Rattle.book.specs.Numbering.{entries-held}
 use Rattle.book.specs.Runs.{Beginning, Call, History, begun, ran}
 use Rattle.book.specs.State.{State, trade}
 use Rattle.law.specs.Plain.{Filling, Plain, Told, filling-entries, given, last-filling, plain, written-since}

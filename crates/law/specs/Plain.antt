@@ -22,11 +22,12 @@ use Rattle.register.specs.Meaning.{Listed}
 use Rattle.requests.specs.declared.request.Request.{Request}
 use Rattle.requests.specs.declared.request.Request.the-variants.{Cancel, Capture, Close, Confirm, ConfirmIntermediation, ExcludeIntermediation, Include, Intermediate, Remove}
 use Rattle.rows.specs.Accounts.{is-selic}
-use Rattle.rows.specs.Trades.{has-leg, id, leg, no-trade}
+use Rattle.rows.specs.Legs.{has-leg, id, leg}
+use Rattle.rows.specs.Trades.{no-trade}
 use Rattle.rows.specs.declared.row.AllocationState.{AllocationState}
 use Rattle.rows.specs.declared.row.AllocationState.the-variants.{Allocated, Confirmed, Empty}
+use Rattle.book.specs.Entries.{entries-of}
 use Rattle.book.specs.Runs.{History}
-use Rattle.book.specs.State.{entries-of}
 
 -- a trade as captured, and which of its sides are filled or confirmed
 pub record Told : Type 0 where

@@ -1,4 +1,4 @@
--- Accounts.
+-- Kinds, and which accounts may stand on a side.
 use mathlib.Core.Bool.{Bool, Bool·beq, false, true, _&&_}
 use Prim.Native.Nat.{ℕ}
 use lib.Dec.{ltb}
@@ -11,6 +11,9 @@ use Rattle.fields.specs.declared.account.Status.the-variants.{Active, Blocked}
 use Rattle.fields.specs.declared.trade.Kind.{Kind}
 use Rattle.fields.specs.declared.trade.Kind.the-variants.{Deposited, Registered, Selic}
 
+-- ── Kinds ──
+
+-- a Selic title, and no deposited asset or registered security
 abbrev pub is-selic : Kind → Bool
 is-selic Selic = true
 is-selic Deposited = false
@@ -25,12 +28,15 @@ same-kind Registered Selic = false
 same-kind Registered Deposited = false
 same-kind Registered Registered = true
 
+-- the kind is one of the markets
 abbrev pub in-markets : Kind → Markets → Bool
 in-markets Selic m = m .selic
 in-markets Deposited m = m .deposited
 in-markets Registered m = m .registered
 
--- SL and SI suit kind S, the others D and R
+-- ── Accounts ──
+
+-- the types that suit Selic titles; the others suit deposited assets and registered securities
 abbrev pub selic-type : AccountType → Bool
 selic-type SL = true
 selic-type SI = true
@@ -41,6 +47,7 @@ selic-type C2 = false
 selic-type EM = false
 selic-type RT = false
 
+-- the types of intermediation accounts
 abbrev pub intermediation-type : AccountType → Bool
 intermediation-type SL = false
 intermediation-type SI = true
@@ -51,7 +58,7 @@ intermediation-type C2 = false
 intermediation-type EM = false
 intermediation-type RT = false
 
--- may stand on both sides of a trade
+-- the types of accounts that may stand on both sides of a trade
 abbrev pub both-sides-type : AccountType → Bool
 both-sides-type SL = false
 both-sides-type SI = false
@@ -66,10 +73,10 @@ abbrev pub is-active : Status → Bool
 is-active Active = true
 is-active Blocked = false
 
--- active on the book's day
+-- not blocked, and registered before the book's day
 abbrev pub active : ℕ → Account → Bool
 active day a = is-active (a .status) && ltb (a .day) day
 
--- by type and by markets
+-- the account suits a kind by its type and by its markets
 abbrev pub suits : Kind → Account → Bool
 suits k a = Bool·beq (selic-type (a .class)) (is-selic k) && in-markets k (a .markets)
