@@ -1,4 +1,4 @@
--- Runs.
+-- Runs: a list of requests, each with what its register meant, and the history that they leave.
 use mathlib.Core.List.{List, [], _∷_}
 use Prim.Native.Nat.{ℕ, _-_}
 use lib.ListN.{drop, take}

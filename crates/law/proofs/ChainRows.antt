@@ -33,26 +33,26 @@ use Rattle.book.specs.Numbering.{confirms-in, chain-confirmed, completed}
 use Rattle.book.specs.Runs.{History, Beginning}
 use Rattle.book.specs.State.{State, trade, intermediation, chain-in, chain-of}
 use Rattle.law.proofs.Events.{Kind-known}
-use Rattle.law.specs.Law.{Agrees, told}
-use Rattle.law.specs.Plain.{Told, Plain, plain, told-number, terms-of, terms-in}
+use Rattle.law.specs.Law.{Agrees, as-plain}
+use Rattle.law.specs.Plain.{PlainTrade, Plain, plain, plain-number, terms-of, terms-in}
 
 -- ── The plain book's terms ──
 
-some-told : Option Trade → Option Told
+some-told : Option Trade → Option PlainTrade
 some-told None = None
-some-told (Some t) = Some (told t)
+some-told (Some t) = Some (as-plain t)
 
-row-told : (n : ℕ) (ts : List Trade) → terms-of (find told-number n (map told ts)) ≡ or-else no-trade (find number n ts) .terms
-row-told n [] = refl
-row-told n (t ∷ ts) = go (row-told n ts) (eqb (number t) n)
+row-plain : (n : ℕ) (ts : List Trade) → terms-of (find plain-number n (map as-plain ts)) ≡ or-else no-trade (find number n ts) .terms
+row-plain n [] = refl
+row-plain n (t ∷ ts) = go (row-plain n ts) (eqb (number t) n)
   where
-    go : terms-of (find told-number n (map told ts)) ≡ or-else no-trade (find number n ts) .terms
-        → (z : Bool) → terms-of (cond z (Some (told t)) (find told-number n (map told ts))) ≡ or-else no-trade (cond z (Some t) (find number n ts)) .terms
+    go : terms-of (find plain-number n (map as-plain ts)) ≡ or-else no-trade (find number n ts) .terms
+        → (z : Bool) → terms-of (cond z (Some (as-plain t)) (find plain-number n (map as-plain ts))) ≡ or-else no-trade (cond z (Some t) (find number n ts)) .terms
     go ih true = refl
     go ih false = ih
 
 pub terms-agree : (p : Plain) (s : State) → Agrees p s → (n : ℕ) → terms-in p n ≡ trade s n .terms
-terms-agree p s a n = ap (λ ts. terms-of (find told-number n ts)) (sym (a .trades)) ∙ row-told n (s .trades .rows)
+terms-agree p s a n = ap (λ ts. terms-of (find plain-number n ts)) (sym (a .trades)) ∙ row-plain n (s .trades .rows)
 
 -- ── Rows found ──
 

@@ -33,8 +33,8 @@ use Rattle.book.specs.Entries.{kept-entry}
 use Rattle.book.specs.Numbering.{all-numbered, numbering, with-numbers, new-pairs}
 use Rattle.book.specs.Runs.{History}
 use Rattle.book.specs.State.{State, trade, at-trade}
-use Rattle.law.specs.Law.{Agrees, Sides, Entitled-by, told}
-use Rattle.law.specs.Plain.{Told, Plain, plain, told-number, put, side-now, Touch, touch, is-side, Filling, last-filling, filling-entries, terms-in, terms-of, empties, fills, leaves}
+use Rattle.law.specs.Law.{Agrees, Sides, Entitled-by, as-plain}
+use Rattle.law.specs.Plain.{PlainTrade, Plain, plain, plain-number, put, side-now, Touch, touch, is-side, Filling, last-filling, filling-entries, terms-in, terms-of, leaves, touched}
 
 -- ── What a side holds, by number ──
 
@@ -51,25 +51,11 @@ abbrev pub Sided : Option Filling → Side → List KeptEntry → Type 0
 Sided o w es = (map (λ (e : KeptEntry). e .entry) es ≡ filling-entries o) × Entitled-by o w es
 
 -- the last filling after a touch
-abbrev pub touched : Touch → List Listed → ℕ → Terms → Option Filling → Option Filling
-touched leaves r day t o = o
-touched empties r day t o = None
-touched (fills es) r day t o = Some (record { entries = es; register = r; day = day; terms = t })
-
 pub last-is : (day : ℕ) (w : Side) (n : ℕ) (q : Request) (r : List Listed) (a : Answer) (ps : List Pair) (h : History)
     → last-filling day w n (record { asked = q; register = r; answered = Ok a; wrote = ps } ∷ h)
     ≡ touched (touch (plain day h) q a w n) r (plain day h .day) (terms-in (plain day h) n) (last-filling day w n h)
 unfolding last-filling
-last-is day w n q r a ps h = go (touch (plain day h) q a w n)
-  where
-    go : (t : Touch) → elim t as (λ x. Option Filling) [
-        leaves ↦ last-filling day w n h
-      | empties ↦ None
-      | fills es ↦ Some (record { entries = es; register = r; day = plain day h .day; terms = terms-in (plain day h) n }) ]
-      ≡ touched t r (plain day h .day) (terms-in (plain day h) n) (last-filling day w n h)
-    go leaves = refl
-    go empties = refl
-    go (fills es) = refl
+last-is day w n q r a ps h = refl
 
 -- a touch by a test, and what the side holds by the same test
 pub sided-if : (b : Bool) (t : Touch) (r : List Listed) (day : ℕ) (m : Terms) (o : Option Filling) (w : Side) (es ds : List KeptEntry)
@@ -90,8 +76,8 @@ fair-from day h s a d = record { agrees = a; sided = λ w n. (d .holds w n, d .e
 
 -- ── A side changed ──
 
-pub told-number-is : (t : Trade) → told-number (told t) ≡ number t
-told-number-is t = refl
+pub plain-number-is : (t : Trade) → plain-number (as-plain t) ≡ number t
+plain-number-is t = refl
 
 -- the side v of a trade changed, by a rule that may look at the trade
 abbrev pub by : Side → (Trade → Allocation → Allocation) → Trade → Trade
@@ -105,9 +91,9 @@ pub by-terms : (v : Side) (g : Trade → Allocation → Allocation) (t : Trade) 
 by-terms Buyer g t = refl
 by-terms Seller g t = refl
 
-pub told-by : (v : Side) (g : Trade → Allocation → Allocation) (st : AllocationState) → ((t : Trade) (d : Allocation) → g t d .state ≡ st) → (t : Trade) → told (by v g t) ≡ put v st (told t)
-told-by Buyer g st h t = ap (λ (x : AllocationState). let y : Told = record { terms = t .terms; buyer = x; seller = t .seller .state } in y) (h t (t .buyer))
-told-by Seller g st h t = ap (λ (x : AllocationState). let y : Told = record { terms = t .terms; buyer = t .buyer .state; seller = x } in y) (h t (t .seller))
+pub told-by : (v : Side) (g : Trade → Allocation → Allocation) (st : AllocationState) → ((t : Trade) (d : Allocation) → g t d .state ≡ st) → (t : Trade) → as-plain (by v g t) ≡ put v st (as-plain t)
+told-by Buyer g st h t = ap (λ (x : AllocationState). let y : PlainTrade = record { terms = t .terms; buyer = x; seller = t .seller .state } in y) (h t (t .buyer))
+told-by Seller g st h t = ap (λ (x : AllocationState). let y : PlainTrade = record { terms = t .terms; buyer = t .buyer .state; seller = x } in y) (h t (t .seller))
 
 module _ (v : Side) (n : ℕ) (g : Trade → Allocation → Allocation) (ts : List Trade) where
   -- what the change leaves of every trade
@@ -174,15 +160,15 @@ pub agrees-at : (v : Side) (n : ℕ) (g : Trade → Allocation → Allocation) (
     → (p : Plain) (s : State) → Agrees p s → Agrees (side-now st v n p) (at-trade n (by v g) s)
 agrees-at v n g st h p s a = record {
   day = a .day;
-  trades = map-changed number told-number told told-number-is (by v g) (put v st) (told-by v g st h) n (s .trades .rows) ∙ ap (changed told-number n (put v st)) (a .trades);
+  trades = map-changed number plain-number as-plain plain-number-is (by v g) (put v st) (told-by v g st h) n (s .trades .rows) ∙ ap (changed plain-number n (put v st)) (a .trades);
   intermediations = a .intermediations;
   trade-count = a .trade-count ∙ sym (length-changed number (by v g) (by-number v g) n (s .trades .rows));
   intermediation-count = a .intermediation-count; pair-count = a .pair-count }
 
 -- ── Numbering ──
 
-pub told-numbered : (n : ℕ) (ts : List Trade) → map told (changed number n numbered ts) ≡ map told ts
-told-numbered n ts = map-changed number told-number told told-number-is numbered (λ x. x) (λ t. refl) n ts ∙ same told-number n (map told ts)
+pub told-numbered : (n : ℕ) (ts : List Trade) → map as-plain (changed number n numbered ts) ≡ map as-plain ts
+told-numbered n ts = map-changed number plain-number as-plain plain-number-is numbered (λ x. x) (λ t. refl) n ts ∙ same plain-number n (map as-plain ts)
   where
     same : {Q : Type 0} (key : Q → ℕ) (n : ℕ) (xs : List Q) → changed key n (λ x. x) xs ≡ xs
     same key n [] = refl
@@ -196,7 +182,7 @@ held-numbered : (w : Side) (t : Trade) → held (allocation w (numbered t)) ≡ 
 held-numbered Buyer t = refl
 held-numbered Seller t = refl
 
-pub all-numbered-told : (c : List Trade) (t : Table Trade) → map told (all-numbered c t .rows) ≡ map told (t .rows)
+pub all-numbered-told : (c : List Trade) (t : Table Trade) → map as-plain (all-numbered c t .rows) ≡ map as-plain (t .rows)
 all-numbered-told [] t = refl
 all-numbered-told (u ∷ c) t = all-numbered-told c (changed-in number (number u) numbered t) ∙ told-numbered (number u) (t .rows)
 
@@ -237,11 +223,11 @@ numbering-fair p o (t ∷ c) s f =
 
 pub terms-known : (p : Plain) (s : State) → Agrees p s → (n : ℕ) → terms-in p n ≡ trade s n .terms
 terms-known p s a n =
-    ap (λ ts. terms-of (find told-number n ts)) (sym (a .trades))
-    ∙ ap terms-of (row-map number told-number told told-number-is n (s .trades .rows))
+    ap (λ ts. terms-of (find plain-number n ts)) (sym (a .trades))
+    ∙ ap terms-of (row-map number plain-number as-plain plain-number-is n (s .trades .rows))
     ∙ go (find number n (s .trades .rows))
   where
-    go : (x : Option Trade) → terms-of (mapped told x) ≡ or-else no-trade x .terms
+    go : (x : Option Trade) → terms-of (mapped as-plain x) ≡ or-else no-trade x .terms
     go None = refl
     go (Some t) = refl
 

@@ -38,13 +38,13 @@ use Rattle.book.specs.Effects.{excluded, cancelled, placed, called-off, marked}
 use Rattle.book.specs.Entries.{whole-entry, kept-entry, shown, no-account, intermediated}
 use Rattle.book.specs.Numbering.{reply}
 use Rattle.book.specs.State.{State, trade, intermediation, at-trade}
-use Rattle.law.proofs.Fair.{found, Adds, Sided, touched, Fair, told-number-is, by, by-number, there-left, terms-left, terms-known, held-filled}
+use Rattle.law.proofs.Fair.{found, Adds, Sided, Fair, plain-number-is, by, by-number, there-left, terms-left, terms-known, held-filled}
 use Rattle.law.proofs.Legs.{none-left, fair-o, on-leg, confirm-leg, fill-leg, enter-joint, gone-if, holds-if, clear, excluded-fair, excluded-zero, excluded-joints, cancelled-fair}
 use Rattle.law.proofs.OneTrade.{next, filled-state}
 use Rattle.law.proofs.Passed.{Confirms-both, Intermediates, Stands, calling-is}
 use Rattle.law.proofs.Picks.{those-same, any-same, picks, picked-gone, picked-any, passes-if, one-gone, one-any, names-picks}
-use Rattle.law.specs.Law.{told, Chains}
-use Rattle.law.specs.Plain.{Plain, told-number, side-now, sides-of-now, all-gone, names, fed, filled-as, holds-side, Filling, terms-in, empties, fills, leaves}
+use Rattle.law.specs.Law.{as-plain, Chains}
+use Rattle.law.specs.Plain.{touched, Plain, plain-number, side-now, sides-of-now, all-gone, names, fed, filled-as, holds-side, Filling, terms-in, empties, fills, leaves}
 
 emptied-if : (b : Bool) (r : List Listed) (day : ℕ) (m : Terms) (o : Option Filling) → cond b None o ≡ touched (cond b empties leaves) r day m o
 emptied-if true r day m o = refl
@@ -75,7 +75,7 @@ marked-fair : (p : Plain) (o : Side → ℕ → Option Filling) (s : State) → 
 marked-fair p o s f n = let a = f .agrees in record {
   agrees = record {
     day = a .day;
-    trades = map-changed number told-number told told-number-is marked (λ x. x) (λ t. refl) n (s .trades .rows) ∙ changed-same told-number n (map told (s .trades .rows)) ∙ a .trades;
+    trades = map-changed number plain-number as-plain plain-number-is marked (λ x. x) (λ t. refl) n (s .trades .rows) ∙ changed-same plain-number n (map as-plain (s .trades .rows)) ∙ a .trades;
     intermediations = a .intermediations;
     trade-count = a .trade-count ∙ sym (length-changed number marked (λ x. refl) n (s .trades .rows));
     intermediation-count = a .intermediation-count; pair-count = a .pair-count };

@@ -23,9 +23,9 @@ use Rattle.rows.specs.declared.row.Trade.{Trade}
 use Rattle.chains.proofs.Keys.{none-some, row-found, length-entered, length-removed, removed-absent, seen-put, each-changed, map-changed, changed-twice, length-changed}
 use Rattle.book.specs.Effects.{excluded, cancelled, excluded-by}
 use Rattle.book.specs.State.{State, trade, at-trade, with-intermediations}
-use Rattle.law.proofs.Fair.{held-in, Adds, Sided, Fair, told-number-is, by, there-left, held-kept, held-leg, adds-at, agrees-at, held-confirmed, same-side}
-use Rattle.law.specs.Law.{told}
-use Rattle.law.specs.Plain.{Plain, told-number, put, side-now, gone, is-side, holds-side, Filling}
+use Rattle.law.proofs.Fair.{held-in, Adds, Sided, Fair, plain-number-is, by, there-left, held-kept, held-leg, adds-at, agrees-at, held-confirmed, same-side}
+use Rattle.law.specs.Law.{as-plain}
+use Rattle.law.specs.Plain.{Plain, plain-number, put, side-now, gone, is-side, holds-side, Filling}
 
 pub none-from : {X : Type 0} (o : Option X) → is-some o ≡ false → o ≡ None
 none-from None e = refl
@@ -166,9 +166,9 @@ pub cancelled-fair : (p : Plain) (o : Side → ℕ → Option Filling) (s : Stat
 cancelled-fair p o s f n = let a = f .agrees in record {
   agrees = record {
     day = a .day;
-    trades = map-changed number told-number told told-number-is cancelled (λ x. put Seller Empty (put Buyer Empty x)) (λ t. refl) n (s .trades .rows)
-      ∙ sym (changed-twice told-number (put Seller Empty) (put Buyer Empty) (λ x. refl) n (map told (s .trades .rows)))
-      ∙ ap (λ ts. changed told-number n (put Seller Empty) (changed told-number n (put Buyer Empty) ts)) (a .trades);
+    trades = map-changed number plain-number as-plain plain-number-is cancelled (λ x. put Seller Empty (put Buyer Empty x)) (λ t. refl) n (s .trades .rows)
+      ∙ sym (changed-twice plain-number (put Seller Empty) (put Buyer Empty) (λ x. refl) n (map as-plain (s .trades .rows)))
+      ∙ ap (λ ts. changed plain-number n (put Seller Empty) (changed plain-number n (put Buyer Empty) ts)) (a .trades);
     intermediations = a .intermediations;
     trade-count = a .trade-count ∙ sym (length-changed number cancelled (λ x. refl) n (s .trades .rows));
     intermediation-count = a .intermediation-count; pair-count = a .pair-count };

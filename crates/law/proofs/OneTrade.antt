@@ -33,10 +33,10 @@ use Rattle.chains.proofs.Keys.{some-of, none-some, row-entered, each-entered, l
 use Rattle.book.specs.Effects.{placed}
 use Rattle.book.specs.Entries.{kept-entry, entries-of, included}
 use Rattle.book.specs.State.{State, trade}
-use Rattle.law.proofs.Fair.{held-in, Adds, Sided, touched, sided-if, Fair, told-number-is, held-put, held-kept, adds-at, agrees-at, terms-known, held-filled, held-confirmed, shares-kept, same-side}
+use Rattle.law.proofs.Fair.{held-in, Adds, Sided, sided-if, Fair, plain-number-is, held-put, held-kept, adds-at, agrees-at, terms-known, held-filled, held-confirmed, shares-kept, same-side}
 use Rattle.law.proofs.Passed.{Captures, Confirms, Includes}
-use Rattle.law.specs.Law.{Entitled, told}
-use Rattle.law.specs.Plain.{Plain, fed, told-number, filled-as, touch, is-side, Filling, terms-in, empties, fills}
+use Rattle.law.specs.Law.{Entitled, as-plain}
+use Rattle.law.specs.Plain.{touched, Plain, fed, plain-number, filled-as, touch, is-side, Filling, terms-in, empties, fills}
 
 -- the last filling after an accepted request
 abbrev pub next : Plain → (Side → ℕ → Option Filling) → List Listed → Request → Answer → Side → ℕ → Option Filling
@@ -80,7 +80,7 @@ module _ (p : Plain) (o : Side → ℕ → Option Filling) (r : List Listed) (s 
       record {
         agrees = record {
           day = g .day;
-          trades = map-entered number told-number told told-number-is c (s .trades .rows) ∙ ap (entered told-number (told c)) (g .trades);
+          trades = map-entered number plain-number as-plain plain-number-is c (s .trades .rows) ∙ ap (entered plain-number (as-plain c)) (g .trades);
           intermediations = g .intermediations;
           trade-count = ap (λ n. n + 1) (g .trade-count) ∙ sym (length-entered number c (s .trades .rows));
           intermediation-count = g .intermediation-count; pair-count = g .pair-count };

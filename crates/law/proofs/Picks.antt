@@ -23,7 +23,7 @@ use Rattle.chains.proofs.Keys.{some-same, none-some, each-in, each-row, row-fou
 use Rattle.book.specs.State.{State, trade}
 use Rattle.law.proofs.Legs.{gone-if}
 use Rattle.law.specs.Law.{Chains, Holder}
-use Rattle.law.specs.Plain.{Told, Plain, told-number, put, gone, all-gone, names}
+use Rattle.law.specs.Plain.{PlainTrade, Plain, plain-number, put, gone, all-gone, names}
 
 pub those-same : {X : Type 0} (p q : X → Bool) (xs : List X) → ((x : X) → In x xs → p x ≡ q x) → those p xs ≡ those q xs
 those-same p q [] h = refl
@@ -35,22 +35,22 @@ any-same p q (x ∷ xs) h = ap₂ _||_ (h x (inl refl)) (any-same p q xs (λ y i
 
 -- ── Two that go may go in either order ──
 
-put-number : (w : Side) (t : Told) → told-number (put w Empty t) ≡ told-number t
+put-number : (w : Side) (t : PlainTrade) → plain-number (put w Empty t) ≡ plain-number t
 put-number Buyer t = refl
 put-number Seller t = refl
 
-put-swap : (v w : Side) (t : Told) → put v Empty (put w Empty t) ≡ put w Empty (put v Empty t)
+put-swap : (v w : Side) (t : PlainTrade) → put v Empty (put w Empty t) ≡ put w Empty (put v Empty t)
 put-swap Buyer Buyer t = refl
 put-swap Buyer Seller t = refl
 put-swap Seller Buyer t = refl
 put-swap Seller Seller t = refl
 
 -- side v of trade n emptied
-abbrev hush : Side → ℕ → List Told → List Told
-hush v n ts = changed told-number n (put v Empty) ts
+abbrev hush : Side → ℕ → List PlainTrade → List PlainTrade
+hush v n ts = changed plain-number n (put v Empty) ts
 
-hush-swap : (v : Side) (n : ℕ) (w : Side) (m : ℕ) (ts : List Told) → hush v n (hush w m ts) ≡ hush w m (hush v n ts)
-hush-swap v n w m ts = changed-swap told-number (put v Empty) (put w Empty) (put-number v) (put-number w) (put-swap v w) n m ts
+hush-swap : (v : Side) (n : ℕ) (w : Side) (m : ℕ) (ts : List PlainTrade) → hush v n (hush w m ts) ≡ hush w m (hush v n ts)
+hush-swap v n w m ts = changed-swap plain-number (put v Empty) (put w Empty) (put-number v) (put-number w) (put-swap v w) n m ts
 
 gone-swap : (x y : Intermediation) (p : Plain) → gone x (gone y p) ≡ gone y (gone x p)
 gone-swap x y p = λ i. record { day = p .day; trades = trades i; standing = removed-swap id (x .id) (y .id) (p .standing) i }

@@ -1,4 +1,5 @@
--- Plain.
+-- The plain book, and what a history tells: which request filled a side last, and which numbers were given.
+-- The plain book is fed each request with its answer. It knows no rows, entries, pairs or numbers.
 use mathlib.Core.Bool.{Bool, Bool·beq, cond, false, true, _&&_, _||_}
 use mathlib.Core.List.{List, [], map, _∷_, _++_}
 use Prim.Native.Nat.{ℕ}
@@ -28,9 +29,17 @@ use Rattle.rows.specs.declared.row.AllocationState.{AllocationState}
 use Rattle.rows.specs.declared.row.AllocationState.the-variants.{Allocated, Confirmed, Empty}
 use Rattle.book.specs.Entries.{entries-of}
 use Rattle.book.specs.Runs.{History}
+use Rattle.book.specs.Tests.{refusal}
 
--- a trade as captured, and which of its sides are filled or confirmed
-pub record Told : Type 0 where
+-- what is done with an answer of acceptance; a refusal leaves things alone
+abbrev pub if-accepted : {X : Type 0} → Result Answer Refusal → (Answer → X) → X → X
+if-accepted (Ok a) f x = f a
+if-accepted (Err refusal) f x = x
+
+-- ── The plain book ──
+
+-- a trade as captured, and how each of its sides stands: empty, allocated or confirmed
+pub record PlainTrade : Type 0 where
   pub terms : Terms
   pub buyer : AllocationState
   pub seller : AllocationState
@@ -38,20 +47,21 @@ pub record Told : Type 0 where
 -- the day, the trades, and the intermediations that stand, each list in rising order
 pub record Plain : Type 0 where
   pub day : ℕ
-  pub trades : List Told
+  pub trades : List PlainTrade
   pub standing : List Intermediation
 
-abbrev pub told-number : Told → ℕ
-told-number t = t .terms .number
+abbrev pub plain-number : PlainTrade → ℕ
+plain-number t = t .terms .number
 
-abbrev pub put : Side → AllocationState → Told → Told
+abbrev pub put : Side → AllocationState → PlainTrade → PlainTrade
 put Buyer st t = record { terms = t .terms; buyer = st; seller = t .seller }
 put Seller st t = record { terms = t .terms; buyer = t .buyer; seller = st }
 
--- the side of a trade is now so
+-- side w of trade n is now so
 abbrev pub side-now : AllocationState → Side → ℕ → Plain → Plain
-side-now st w n p = record { day = p .day; trades = changed told-number n (put w st) (p .trades); standing = p .standing }
+side-now st w n p = record { day = p .day; trades = changed plain-number n (put w st) (p .trades); standing = p .standing }
 
+-- both sides that an intermediation holds are now so
 abbrev pub sides-now : AllocationState → Intermediation → Plain → Plain
 sides-now st x p = side-now st Seller (x .sold) (side-now st Buyer (x .bought) p)
 
@@ -67,17 +77,17 @@ abbrev pub all-gone : List Intermediation → Plain → Plain
 all-gone [] p = p
 all-gone (x ∷ xs) p = all-gone xs (gone x p)
 
--- the intermediation holds a side of this trade
+-- the intermediation names this trade, as bought or as sold
 abbrev pub names : ℕ → Intermediation → Bool
 names n x = eqb (x .bought) n || eqb (x .sold) n
 
 abbrev pub filled-as : Bool → AllocationState
 filled-as confirm = cond confirm Confirmed Allocated
 
--- what an accepted request does to it
+-- what an accepted request does to the plain book
 abbrev pub fed : Plain → Request → Answer → Plain
 fed p (Capture q) a =
-    record { day = p .day; trades = entered told-number (record { terms = q .terms; buyer = Empty; seller = Empty }) (p .trades); standing = p .standing }
+    record { day = p .day; trades = entered plain-number (record { terms = q .terms; buyer = Empty; seller = Empty }) (p .trades); standing = p .standing }
 fed p (Cancel q) Marked = p
 fed p (Cancel q) (Written n first) =
     side-now Empty Seller (q .trade) (side-now Empty Buyer (q .trade) (all-gone (those (names (q .trade)) (p .standing)) p))
@@ -85,29 +95,28 @@ fed p (Include q) a = side-now (filled-as (q .now)) (q .side) (q .trade) p
 fed p (Remove q) a = side-now Empty (q .side) (q .trade) p
 fed p (Confirm q) a = side-now Confirmed (q .side) (q .trade) p
 fed p (Intermediate q) a =
-    sides-now (filled-as (q .now)) (q .intermediation) (record { day = p .day; trades = p .trades; standing = entered id (q .intermediation) (p .standing) })
+    sides-now (filled-as (q .now)) (q .intermediation)
+    (record { day = p .day; trades = p .trades; standing = entered id (q .intermediation) (p .standing) })
 fed p (ConfirmIntermediation q) a = sides-of-now Confirmed (find id (q .id) (p .standing)) p
 fed p (ExcludeIntermediation q) a = all-gone (those (λ x. eqb (x .id) (q .id)) (p .standing)) p
 fed p (Close q) a = record { day = q .day; trades = []; standing = [] }
 
--- a refused one leaves it alone
-abbrev pub fed-answer : Plain → Request → Result Answer Refusal → Plain
-fed-answer p q (Ok a) = fed p q a
-fed-answer p q (Err f) = p
-
 -- the plain book after a history that began on this day
 unfoldable pub plain : ℕ → History → Plain
 plain day [] = record { day = day; trades = []; standing = [] }
-plain day (e ∷ h) = fed-answer (plain day h) (e .asked) (e .answered)
+plain day (e ∷ h) = if-accepted (e .answered) (fed (plain day h) (e .asked)) (plain day h)
 
-abbrev pub terms-of : Option Told → Terms
+abbrev pub terms-of : Option PlainTrade → Terms
 terms-of None = no-trade .terms
 terms-of (Some t) = t .terms
 
 -- the trade as captured
 abbrev pub terms-in : Plain → ℕ → Terms
-terms-in p n = terms-of (find told-number n (p .trades))
+terms-in p n = terms-of (find plain-number n (p .trades))
 
+-- ── What filled a side last ──
+
+-- an accepted request leaves a side, empties it, or fills it with entries
 pub data Touch : Type 0 where
   leaves : Touch
   empties : Touch
@@ -123,7 +132,7 @@ is-side Seller Seller = true
 abbrev pub holds-side : Side → ℕ → Intermediation → Bool
 holds-side w n x = has-leg w x && eqb (leg w x) n
 
--- what an accepted request does to side w of trade n
+-- what an accepted request does to side w of trade n, by the plain book before it
 abbrev pub touch : Plain → Request → Answer → Side → ℕ → Touch
 touch p (Capture q) a w n = leaves
 touch p (Cancel q) Marked w n = leaves
@@ -138,29 +147,34 @@ touch p (ConfirmIntermediation q) a w n = leaves
 touch p (ExcludeIntermediation q) a w n = cond (any (λ x. eqb (x .id) (q .id) && holds-side w n x) (p .standing)) empties leaves
 touch p (Close q) a w n = empties
 
--- an accepted request that filled a side: the entries, its register, and the book's day and the trade as captured then
+-- a filling: the entries, the register of that request, and the book's day and the trade as captured then
 pub record Filling : Type 0 where
   pub entries : List Entry
   pub register : List Listed
   pub day : ℕ
   pub terms : Terms
 
+-- the last filling after a touch, with the one before it
+abbrev pub touched : Touch → List Listed → ℕ → Terms → Option Filling → Option Filling
+touched leaves r day t before = before
+touched empties r day t before = None
+touched (fills es) r day t before = Some (record { entries = es; register = r; day = day; terms = t })
+
 -- the last accepted request that filled side w of trade n, if no later one emptied it
 unfoldable pub last-filling : ℕ → Side → ℕ → History → Option Filling
 last-filling day w n [] = None
 last-filling day w n (e ∷ h) =
-    elim (e .answered) [
-      Err f ↦ last-filling day w n h
-    | Ok a ↦ elim (touch (plain day h) (e .asked) a w n) [
-        leaves ↦ last-filling day w n h
-      | empties ↦ None
-      | fills es ↦ Some (record { entries = es; register = e .register; day = plain day h .day; terms = terms-in (plain day h) n }) ] ]
+    if-accepted (e .answered)
+    (λ a. touched (touch (plain day h) (e .asked) a w n) (e .register) (plain day h .day) (terms-in (plain day h) n) (last-filling day w n h))
+    (last-filling day w n h)
 
 abbrev pub filling-entries : Option Filling → List Entry
 filling-entries None = []
 filling-entries (Some f) = f .entries
 
--- the numbers written for kind S, or for the other kinds, in order
+-- ── Pairs and numbers ──
+
+-- the numbers of the pairs written for trades of kind Selic, or for those of the other kinds, in order; a closing takes none away
 unfoldable pub given : Bool → ℕ → History → List ℕ
 given selic day [] = []
 given selic day (e ∷ h) =
@@ -180,5 +194,4 @@ closes (Close q) = true
 -- the pairs written since the last closing
 unfoldable pub written-since : History → List Pair
 written-since [] = []
-written-since (e ∷ h) =
-    elim (e .answered) [ Err f ↦ written-since h | Ok a ↦ cond (closes (e .asked)) [] (written-since h ++ e .wrote) ]
+written-since (e ∷ h) = if-accepted (e .answered) (λ a. cond (closes (e .asked)) [] (written-since h ++ e .wrote)) (written-since h)
