@@ -20,7 +20,7 @@ pub record Event : Type 0 where
   pub answered : Result Answer Refusal
   pub wrote : List Pair
 
--- the newest first
+-- what happened in a run, the newest first
 abbrev pub History : Type 0
 History = List Event
 
@@ -44,22 +44,27 @@ pub record Call : Type 0 where
   pub asked : Request
   pub register : List Listed
 
+-- what a request leaves in the history
 abbrev pub event : Call → Result Answer Refusal → State → Event
 event c a s = record { asked = c .asked; register = c .register; answered = a; wrote = rows-named a (s .pairs .rows) }
 
+-- where a run stands
 pub record Run : Type 0 where
   pub history : History
   pub state : State
 
+-- after one more request
 abbrev pub stepped : Run → Call → Run
 stepped run c =
     let o : Outcome = step (c .register) (run .state) (c .asked) in
     record { history = event c (o .answer) (o .after) ∷ run .history; state = o .after }
 
+-- after a list of them
 unfoldable pub ran : Run → List Call → Run
 ran run [] = run
 ran run (c ∷ cs) = ran (stepped run c) cs
 
+-- the empty book of a beginning
 abbrev pub begun : Beginning → Run
 begun b = record {
   history = [];
