@@ -24,7 +24,7 @@ use Rattle.book.specs.State.{State, trade, intermediation}
 use Rattle.law.proofs.Accepts.{Sound, walk-in, halves-of}
 use Rattle.law.proofs.Completed.{final-each}
 use Rattle.law.proofs.Fulls.{behind, each-behind, num-full, full-num, others-are, num-not0}
-use Rattle.law.proofs.PairLaw.{Full, Stays}
+use Rattle.law.proofs.PairLaw.{Full, Still-full}
 use Rattle.law.proofs.Shown.{tr, jo, view}
 use Rattle.law.proofs.Views.{next, prev, first}
 use Rattle.law.specs.Law.{final}
@@ -145,7 +145,7 @@ module _ (s t : State) (g : Sound s) (k : Sound t) (f : Frozen s t) where
   still-full : (m : ℕ) → view s .num m ≡ true → prev (view s) m ≡ 0 → Full t m (behind (next (view s)) m)
   still-full m h p = subst (Full t m) (same-behind m h) (num-full t k m (frozen-num s t f m h) (same-prev m h ∙ p))
 
-  pub stays : Stays s t
+  pub stays : Still-full s t
   stays first others full =
       let n = full-num s g first others full in
       let o = others-are s g first others (full .chain) in

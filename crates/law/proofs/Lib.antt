@@ -25,5 +25,6 @@ pub mod Placed
 pub mod Quantities
 pub mod Shown
 pub mod SidesKept
+pub mod Staying
 pub mod Steps
 pub mod Views

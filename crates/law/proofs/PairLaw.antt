@@ -108,10 +108,10 @@ pub record Ends-same (s t : State) (first last : ℕ) : Type 0 where
   pub bought : entries-held (trade t last .buyer) ≡ entries-held (trade s last .buyer)
 
 -- what was whole and confirmed is so still
-abbrev pub Stays : State → State → Type 0
-Stays s t = (first : ℕ) (others : List ℕ) → Full s first others → Full t first others × Ends-same s t first (final first others)
+abbrev pub Still-full : State → State → Type 0
+Still-full s t = (first : ℕ) (others : List ℕ) → Full s first others → Full t first others × Ends-same s t first (final first others)
 
-still-of : (s t : State) → Stays s t → (ps : List Pair) → Each (Of-full s) ps → Each (Of-full t) ps
+still-of : (s t : State) → Still-full s t → (ps : List Pair) → Each (Of-full s) ps → Each (Of-full t) ps
 still-of s t stays ps all =
     each-map (Of-full s) (Of-full t) (λ p of. record { others = of .others; full = stays (p .first) (of .others) (of .full) .0; ends = of .ends }) ps all
 
@@ -125,7 +125,7 @@ as-chains t ps all = each-map (Of-full t) (λ p. (others : List ℕ) × Chain t 
 
 -- no chain was completed
 pub pairs-unchanged : (b : Beginning) (h k : History) (s t : State) → Chains t → Pairs b h s → Counted b k t
-    → t .pairs .rows ≡ s .pairs .rows → Stays s t → ((first : ℕ) (others : List ℕ) → Full t first others → Full s first others)
+    → t .pairs .rows ≡ s .pairs .rows → Still-full s t → ((first : ℕ) (others : List ℕ) → Full t first others → Full s first others)
     → Pairs b k t
 pairs-unchanged b h k s t c law counted same stays back =
     let all : Each (Of-full t) (t .pairs .rows) = subst (Each (Of-full t)) (sym same) (still-of s t stays (s .pairs .rows) (pairs-full b h s law)) in
@@ -151,7 +151,7 @@ fresh-of t first others full new names =
     (λ p e. record { others = others; full = subst (λ n. Full t n others) (sym (e .0)) full; ends = ap (λ n. final n others) (e .0) ∙ sym (e .1) }) new names
 
 -- no pair of before is of the chain that was completed
-none-before : (s t : State) → Chains t → Stays s t → (first : ℕ) (others : List ℕ) → Full t first others → (Full s first others → ⊥)
+none-before : (s t : State) → Chains t → Still-full s t → (first : ℕ) (others : List ℕ) → Full t first others → (Full s first others → ⊥)
     → (ps : List Pair) → Each (Of-full s) ps → those (naming first (final first others)) ps ≡ []
 none-before s t c stays first others full not-before ps all =
     those-none (naming first (final first others)) ps (each-map (Of-full s) (λ p. naming first (final first others) p ≡ false) go ps all)
@@ -170,7 +170,7 @@ none-before s t c stays first others full not-before ps all =
 
 -- one chain was completed
 pub pairs-written : (b : Beginning) (h k : History) (s t : State) (new : List Pair) (first : ℕ) (others : List ℕ) → Chains t → Pairs b h s → Counted b k t
-    → t .pairs .rows ≡ s .pairs .rows ++ new → Stays s t → Fresh b s t new first others
+    → t .pairs .rows ≡ s .pairs .rows ++ new → Still-full s t → Fresh b s t new first others
     → ((f : ℕ) (os : List ℕ) → Full t f os → Full s f os ⊎ ((f ≡ first) × (os ≡ others)))
     → Pairs b k t
 pairs-written b h k s t new first others c law counted grown stays fresh back =

@@ -1,18 +1,20 @@
 -- Every request keeps the pairs lawful.
-use mathlib.Core.Bool.{true, false}
+use mathlib.Core.Bool.{true, false, _&&_}
 use mathlib.Core.List.{List, [], _∷_, _++_, map}
 use mathlib.Core.Logic.{_⊎_, inl, inr, ⊎-elim}
 use mathlib.Core.Path.{_≡_, refl, sym, ap, ap₂, subst, _∙_}
 use Prim.Native.Nat.{ℕ, _≤_, _<_}
 use native.Mathlib.Omega.{arith}
+use lib.Dec.{eqb}
 use lib.ListN.{length}
 use Rattle.std.proofs.shelf.Tests.{cases-eq, ne-eqb, eq-eqb, both-ways, and-parts, false≢true}
 use Rattle.std.specs.declared.option.Option.the-variants.{Some}
 use Rattle.fields.specs.Ranges.{numbers}
 use Rattle.fields.specs.declared.trade.Entry.{Entry}
+use Rattle.fields.specs.declared.trade.Pair.{Pair}
 use Rattle.fields.specs.declared.trade.Side.{Side}
 use Rattle.fields.specs.declared.trade.Side.the-variants.{Buyer, Seller}
-use Rattle.keyed.specs.Lists.{is-some}
+use Rattle.keyed.specs.Lists.{is-some, those}
 use Rattle.keyed.specs.Members.{Each}
 use Rattle.keyed.specs.Rows.{Table, find}
 use Rattle.register.specs.Meaning.{Listed}
@@ -29,7 +31,7 @@ use Rattle.chains.proofs.Ties.{first-is}
 use Rattle.chains.proofs.Walk.{Not0, far, joined}
 use Rattle.chains.proofs.Walks.{far-stops, far-far, far-not0, member}
 use Rattle.chains.specs.Following.{last-of}
-use Rattle.book.specs.Numbering.{chain-matches, issuer, new-pairs, all-numbered, numbering, confirms-in}
+use Rattle.book.specs.Numbering.{chain-matches, issuer, new-pairs, all-numbered, numbering, confirms-in, with-numbers}
 use Rattle.book.specs.Runs.{History, Beginning}
 use Rattle.book.specs.State.{State, trade}
 use Rattle.law.proofs.Accepts.{Sound, Ends-hold, walk-in}
@@ -43,14 +45,14 @@ use Rattle.law.proofs.Events.{Unnumbered}
 use Rattle.law.proofs.Fair.{Adds}
 use Rattle.law.proofs.Froze.{Same, same-self, same-then, Frozen, frozen-then, changed-alike, same-next, stays, was-full}
 use Rattle.law.proofs.Fulls.{behind, num-full, full-num}
-use Rattle.law.proofs.Histories.{Counted, counted-of, All-name}
+use Rattle.law.proofs.Histories.{Counted, counted-of, All-name, pairs-kept}
 use Rattle.law.proofs.PairLaw.{Full, pairs-unchanged, pairs-written, chain-same}
 use Rattle.law.proofs.Passed.{Enough, Passed}
 use Rattle.law.proofs.Placed.{Leaves}
 use Rattle.law.proofs.Quantities.{Sound-trade}
 use Rattle.law.proofs.Shown.{tr, ends, view}
 use Rattle.law.proofs.Views.{View, next, prev, first, whole-chain, numbered as numbered-view}
-use Rattle.law.specs.Law.{Sides, Pairs}
+use Rattle.law.specs.Law.{Sides, Pairs, final, pairs-of}
 
 -- ── The ends hold something ──
 
@@ -95,7 +97,15 @@ numbering-frozen : (c : List Trade) (p : State) → Frozen p (numbering c p)
 unfolding numbering
 numbering-frozen c p = record { parts = λ m h. rows-alike c (p .trades) m; intermediations = λ w m h. refl }
 
+pub with-numbers-frozen : (c : List Trade) (p : State) → Frozen p (with-numbers c p)
+with-numbers-frozen [] p = record { parts = λ m h. same-self (trade p m); intermediations = λ w m h. refl }
+with-numbers-frozen (u ∷ c) p = numbering-frozen (u ∷ c) p
+
 -- ── The pairs ──
+
+-- the pairs of each chain that was whole and confirmed are as they were
+abbrev pub Old-pairs : State → State → Type 0
+Old-pairs s t = (f : ℕ) (os : List ℕ) → Full s f os → pairs-of t f (final f os) ≡ pairs-of s f (final f os)
 
 module _ (b : Beginning) (h : History) (s : State) (g : Sound s) (law : Pairs b h s) (p : State) (leaves : Leaves s p) (same : Unnumbered s p) where
   -- no chain was completed
@@ -190,3 +200,17 @@ module _ (b : Beginning) (h : History) (s : State) (g : Sound s) (law : Pairs b 
             all-name = subst (λ l. All-name (number x) l new) (sym (final-last x us)) (all-name (number x) (number (last-of (conf-line p n conf))) (chain-matches (conf-line p n conf)) (issuer (conf-line p n conf) p));
             paired = paired-after b h k s p x us (counted-of b h s law .issued) same found numbers sound sides (chains t gt) new-full })
           back
+
+      pub old-pairs : Old-pairs s t
+      unfolding numbering
+      old-pairs f′ os full =
+          let new = new-pairs (conf-line p n conf) p in
+          ap (λ (r : Table Pair). those (λ q. eqb (q .first) f′ && eqb (q .last) (final f′ os)) (r .rows ++ new)) (same .pairs)
+          ∙ pairs-kept f′ (final f′ os) (number x) (final (number x) (map number us)) (s .pairs .rows) new differ
+          (subst (λ l. All-name (number x) l new) (sym (final-last x us)) (all-name (number x) (number (last-of (conf-line p n conf))) (chain-matches (conf-line p n conf)) (issuer (conf-line p n conf) p)))
+        where
+          differ : (number x ≡ f′) × (final (number x) (map number us) ≡ final f′ os) → ⊥
+          differ e =
+              let there : Full t f′ (map number us) = subst (λ a. Full t a (map number us)) (e .0) new-full in
+              let eq : os ≡ map number us = chain-same t (chains t gt) f′ os (map number us) (stays s t g gt frozen-after f′ os full .0 .chain) (there .chain) in
+              not-before (subst (λ a. Full s a (map number us)) (sym (e .0)) (subst (Full s f′) eq full))
