@@ -23,8 +23,10 @@ pub mod PairLaw
 pub mod Picks
 pub mod Placed
 pub mod Quantities
+pub mod Refusals
 pub mod Shown
 pub mod SidesKept
 pub mod Staying
 pub mod Steps
+pub mod Unbroken
 pub mod Views

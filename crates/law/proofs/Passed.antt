@@ -97,7 +97,7 @@ standing : {R : Type 0} (limit : ℕ) (key : R → ℕ) (good : R → Bool) (t :
 unfolding stands whole
 standing limit key good t h = let p = and-parts _ _ h in (and-parts _ _ (p .0) .1, p .1)
 
-tables-passed : (s : State) → tables-verdict (s .trades) (s .intermediations) (s .pairs) ≡ None → Tables s
+pub tables-passed : (s : State) → tables-verdict (s .trades) (s .intermediations) (s .pairs) ≡ None → Tables s
 unfolding tables-verdict
 tables-passed s e =
     let a = passed _ _ _ e in
