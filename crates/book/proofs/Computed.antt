@@ -14,7 +14,7 @@ use Rattle.book.specs.Verdicts.{account-verdict, capture-verdict, closing-verd
 
 pub cases-hold : Cases-hold
 unfolding whole room stands beyond way chain matched excluded placed completed numbering effect capture-fields party-fields cancel-fields inclusion-fields entry-fields entries-fields side-fields intermediation-fields leg-fields call-fields closing-fields fields-verdict tables-verdict capture-verdict trade-verdict side-verdict empty-verdict account-verdict opposite-verdict entry-verdict entries-verdict inclusion-verdict outside-verdict numbers-verdict id-verdict leg-verdict legs-verdict two-legs-verdict intermediary-verdict leg-tied-verdict ties-verdict leg-opposite-verdict opposites-verdict intermediation-verdict sides-verdict unnumbered-verdict closing-verdict on-side-verdict completed-verdict own-verdict verdict step ran day-of
-cases-hold = refl
+cases-hold = (refl, (refl, (refl, (refl, (refl, (refl, (refl, (refl, (refl, (refl, (refl, (refl, tt))))))))))))
 
 pub foreign : Foreign
 unfolding whole room stands beyond way chain matched excluded placed completed numbering effect capture-fields party-fields cancel-fields inclusion-fields entry-fields entries-fields side-fields intermediation-fields leg-fields call-fields closing-fields fields-verdict tables-verdict capture-verdict trade-verdict side-verdict empty-verdict account-verdict opposite-verdict entry-verdict entries-verdict inclusion-verdict outside-verdict numbers-verdict id-verdict leg-verdict legs-verdict two-legs-verdict intermediary-verdict leg-tied-verdict ties-verdict leg-opposite-verdict opposites-verdict intermediation-verdict sides-verdict unnumbered-verdict closing-verdict on-side-verdict completed-verdict own-verdict verdict step ran day-of

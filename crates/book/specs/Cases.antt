@@ -1,6 +1,6 @@
--- Cases.
+-- The worked day and the edges, as cases: requests with the answers wanted, and the pairs wanted at the end.
 use mathlib.Core.Bool.{false, true}
-use mathlib.Core.List.{List, [], map, _∷_}
+use mathlib.Core.List.{List, [], _∷_}
 use mathlib.Core.Path.{_≡_}
 use Prim.Native.Nat.{ℕ}
 use Rattle.fields.specs.Ranges.{numbers}
@@ -10,6 +10,7 @@ use Rattle.fields.specs.declared.trade.Intermediation.{Intermediation}
 use Rattle.fields.specs.declared.trade.Kind.the-variants.{Deposited, Registered, Selic}
 use Rattle.fields.specs.declared.trade.Side.{Side}
 use Rattle.fields.specs.declared.trade.Side.the-variants.{Buyer, Seller}
+use Rattle.keyed.specs.Members.{Each}
 use Rattle.register.specs.Meaning.{Listed}
 use Rattle.requests.specs.declared.request.Request.{Request}
 use Rattle.rows.specs.Trades.{at-side, captured}
@@ -27,14 +28,15 @@ pub record Case : Type 0 where
   pub requests : List Request
   pub wanted : Day
 
-abbrev pub done : Case → Day
-done c = day-of (c .beginning) (c .register) (c .requests)
+-- what the model says is what is wanted
+abbrev pub Comes-out : Case → Type 0
+Comes-out c = day-of (c .beginning) (c .register) (c .requests) ≡ c .wanted
 
-abbrev pub wants : Case → Day
-wants c = c .wanted
-
+-- day 100, with these numbers left and this many pair rows
 abbrev pub day-100 : List ℕ → List ℕ → ℕ → Beginning
 day-100 selic control pair-rows = record { day = 100; trade-rows = 64; intermediation-rows = 64; pair-rows = pair-rows; selic = selic; control = control }
+
+-- ── The worked day ──
 
 abbrev pub worked-register : List Listed
 worked-register =
@@ -57,7 +59,9 @@ worked = record {
     says = A 0 0 ∷ A 0 0 ∷ A 0 0 ∷ A 0 0 ∷ A 2 1 ∷ R 31 0 ∷ [];
     leaves = P 501 1 11 2 12 60 ∷ P 502 1 11 2 12 40 ∷ [] } }
 
--- in time to the minute; the last is S settling later
+-- ── The edges ──
+
+-- in time to the minute; the last is a Selic title that settles later
 abbrev pub hours : Case
 hours = record {
   beginning = day-100 [] [] 4; register = [];
@@ -68,6 +72,7 @@ hours = record {
     ∷ C 1200 7 Selic 77 100 101 1 1 2 2 ∷ C 1201 8 Selic 77 100 101 1 1 2 2 ∷ [];
   wanted = record { says = A 0 0 ∷ R 11 0 ∷ A 0 0 ∷ R 11 0 ∷ A 0 0 ∷ R 11 0 ∷ A 0 0 ∷ R 11 0 ∷ []; leaves = [] } }
 
+-- accounts of one participant or of two, the last two of the type for intermediations
 abbrev pub edge-register : List Listed
 edge-register =
     listed 21 SL Active 99 true false false (tie 1 1 ∷ [])
@@ -87,6 +92,7 @@ registered-day = record {
   requests = trade-1 ∷ I 600 1 1 Buyer false (entry 21 100 0 ∷ []) ∷ I 600 1 1 Buyer false (entry 22 100 0 ∷ []) ∷ [];
   wanted = record { says = A 0 0 ∷ A 0 0 ∷ R 18 1 ∷ []; leaves = [] } }
 
+-- for 100, entries of 60 and 40 pass; 60 and 39, or 60 and 41, do not
 abbrev pub sums : Case
 sums = record {
   beginning = day-100 [] [] 4; register = edge-register;
@@ -95,15 +101,15 @@ sums = record {
     ∷ I 600 2 1 Seller false (entry 23 60 0 ∷ entry 24 39 0 ∷ []) ∷ I 600 2 1 Seller false (entry 23 60 0 ∷ entry 24 41 0 ∷ []) ∷ [];
   wanted = record { says = A 0 0 ∷ A 0 0 ∷ R 23 0 ∷ R 23 0 ∷ []; leaves = [] } }
 
--- sellers 60, 40 with buyers 30, 70
+-- sellers 60, 40 with buyers 30, 70; a refusal before changes nothing
 abbrev pub paired : Case
 paired = record {
   beginning = day-100 (7 ∷ 8 ∷ 9 ∷ []) [] 4; register = edge-register;
   requests =
     trade-1 ∷ I 600 2 1 Seller true (entry 23 60 0 ∷ entry 24 40 0 ∷ []) ∷ I 600 1 1 Buyer false (entry 21 30 0 ∷ entry 21 70 0 ∷ [])
-    ∷ F 600 1 1 Buyer ∷ F 600 1 1 Buyer ∷ X 600 1 ∷ D 600 1 1 Buyer ∷ [];
+    ∷ F 600 2 1 Buyer ∷ F 600 1 1 Buyer ∷ F 600 1 1 Buyer ∷ X 600 1 ∷ D 600 1 1 Buyer ∷ [];
   wanted = record {
-    says = A 0 0 ∷ A 0 0 ∷ A 0 0 ∷ A 3 1 ∷ R 14 0 ∷ T ∷ R 14 0 ∷ [];
+    says = A 0 0 ∷ A 0 0 ∷ A 0 0 ∷ R 13 0 ∷ A 3 1 ∷ R 14 0 ∷ T ∷ R 14 0 ∷ [];
     leaves = P 7 1 23 1 21 30 ∷ P 8 1 23 1 21 30 ∷ P 9 1 24 1 21 40 ∷ [] } }
 
 -- one number, or one row, too few: nothing is written, and the side is not even allocated
@@ -131,6 +137,14 @@ chains = record {
   wanted = record {
     says = A 0 0 ∷ A 0 0 ∷ A 0 0 ∷ A 0 0 ∷ A 0 0 ∷ R 21 1 ∷ A 0 0 ∷ A 0 0 ∷ A 0 0 ∷ R 30 0 ∷ A 0 0 ∷ R 30 0 ∷ A 0 0 ∷ R 13 2 ∷ [];
     leaves = [] } }
+
+-- a chain is numbered when all its sides are confirmed, and not when one of its trades is
+abbrev pub all-confirmed : Case
+all-confirmed = record {
+  beginning = day-100 (7 ∷ 8 ∷ []) [] 4; register = edge-register;
+  requests = line-of (
+    I 600 2 1 Seller true (entry 23 100 0 ∷ []) ∷ I 600 2 4 Buyer false (entry 24 100 0 ∷ []) ∷ J 600 1 1 25 1 4 true ∷ F 600 2 4 Buyer ∷ []);
+  wanted = record { says = A 0 0 ∷ A 0 0 ∷ A 0 0 ∷ A 0 0 ∷ A 0 0 ∷ A 0 0 ∷ A 0 0 ∷ A 1 1 ∷ []; leaves = P 7 1 23 4 24 100 ∷ [] } }
 
 -- the middle trade of a chain is cancelled: both its intermediations go, and their four sides are empty; its number stays taken
 abbrev pub cancelling : Case
@@ -165,11 +179,14 @@ fields = record {
 abbrev pub cases : List Case
 cases =
     worked ∷ hours ∷ registered-day ∷ sums ∷ paired ∷ too-few (7 ∷ 8 ∷ []) 4 (R 32 0) ∷ too-few (7 ∷ 8 ∷ 9 ∷ []) 2 (R 33 0)
-    ∷ chains ∷ cancelling ∷ closing ∷ fields ∷ []
+    ∷ chains ∷ all-confirmed ∷ cancelling ∷ closing ∷ fields ∷ []
 
 abbrev pub Cases-hold : Type 0
-Cases-hold = map done cases ≡ map wants cases
+Cases-hold = Each Comes-out cases
 
+-- ── Tables of another book ──
+
+-- three trades and two intermediations, whatever they are
 abbrev pub holding : List Trade → List Intermediation → State
 holding ts xs = record {
   day = 100; trades = record { count = 3; size = 4; rows = ts }; intermediations = record { count = 2; size = 4; rows = xs };
@@ -191,19 +208,36 @@ intermediation-of n bought sold = record { id = n; participant = 1; account = 25
 abbrev pub asks : State → Request → Said
 asks s q = said (step edge-register s q .answer)
 
+-- the usual trades and intermediations: a chain of three
+abbrev pub lawful-trades : List Trade
+lawful-trades = a-trade 1 1 0 ∷ a-trade 2 2 1 ∷ a-trade 3 0 2 ∷ []
+
+abbrev pub lawful-intermediations : List Intermediation
+lawful-intermediations = intermediation-of 1 1 2 ∷ intermediation-of 2 2 3 ∷ []
+
+-- what is answered over tables of another book
 abbrev pub Foreign : Type 0
 Foreign =
-    -- a chain of three; a fourth trade that is not there; not tied back; the wrong trade; a ring; a row that does not rise; both legs 0; a bad field; a free tie
-    asks (holding (a-trade 1 1 0 ∷ a-trade 2 2 1 ∷ a-trade 3 0 2 ∷ []) (intermediation-of 1 1 2 ∷ intermediation-of 2 2 3 ∷ [])) (X 600 2)
-    ∷ asks (holding (a-trade 1 1 0 ∷ a-trade 2 2 1 ∷ a-trade 3 0 2 ∷ []) (intermediation-of 1 1 2 ∷ intermediation-of 2 2 4 ∷ [])) (X 600 1)
-    ∷ asks (holding (a-trade 1 1 0 ∷ a-trade 2 2 1 ∷ a-trade 3 0 3 ∷ []) (intermediation-of 1 1 2 ∷ intermediation-of 2 2 3 ∷ [])) (X 600 1)
-    ∷ asks (holding (a-trade 1 1 0 ∷ a-trade 2 2 1 ∷ a-trade 3 0 2 ∷ []) (intermediation-of 1 1 2 ∷ intermediation-of 2 1 3 ∷ [])) (X 600 1)
+    -- a chain of three
+    asks (holding lawful-trades lawful-intermediations) (X 600 2)
+    -- one leads to a fourth trade that is not there
+    ∷ asks (holding lawful-trades (intermediation-of 1 1 2 ∷ intermediation-of 2 2 4 ∷ [])) (X 600 1)
+    -- the third trade is not tied back
+    ∷ asks (holding (a-trade 1 1 0 ∷ a-trade 2 2 1 ∷ a-trade 3 0 3 ∷ []) lawful-intermediations) (X 600 1)
+    -- the second intermediation names another trade
+    ∷ asks (holding lawful-trades (intermediation-of 1 1 2 ∷ intermediation-of 2 1 3 ∷ [])) (X 600 1)
+    -- a ring
     ∷ asks (holding (a-trade 1 1 2 ∷ a-trade 2 2 1 ∷ a-trade 3 0 0 ∷ []) (intermediation-of 1 1 2 ∷ intermediation-of 2 2 1 ∷ [])) (X 600 1)
     ∷ asks (holding (a-trade 1 1 2 ∷ a-trade 2 2 1 ∷ a-trade 3 0 0 ∷ []) (intermediation-of 1 1 2 ∷ intermediation-of 2 2 1 ∷ [])) (E 600 1 1)
-    ∷ asks (holding (a-trade 1 0 0 ∷ a-trade 3 0 0 ∷ a-trade 3 0 0 ∷ []) (intermediation-of 1 1 2 ∷ intermediation-of 2 2 1 ∷ [])) (X 600 1)
+    -- the numbers of the trades do not rise
+    ∷ asks (holding (a-trade 1 0 0 ∷ a-trade 3 0 0 ∷ a-trade 3 0 0 ∷ []) lawful-intermediations) (X 600 1)
+    -- an intermediation has no leg
     ∷ asks (holding (a-trade 1 0 0 ∷ a-trade 2 0 0 ∷ a-trade 3 0 0 ∷ []) (intermediation-of 1 1 2 ∷ intermediation-of 2 0 0 ∷ [])) (Z 1300 101)
-    ∷ asks (holding (a-trade 1 0 0 ∷ a-trade 2 0 0 ∷ a-trade 3 1000000000 0 ∷ []) (intermediation-of 1 1 2 ∷ intermediation-of 2 2 3 ∷ [])) (Z 1300 101)
-    ∷ asks (holding (a-trade 1 0 0 ∷ a-trade 2 0 0 ∷ a-trade 3 9 0 ∷ []) (intermediation-of 1 1 2 ∷ intermediation-of 2 2 3 ∷ [])) (G 600 1 1)
-    ∷ asks (holding (a-trade 1 0 0 ∷ a-trade 2 0 0 ∷ a-trade 3 9 0 ∷ []) (intermediation-of 1 1 2 ∷ intermediation-of 2 2 3 ∷ [])) (X 600 3)
+    -- a tie is out of range
+    ∷ asks (holding (a-trade 1 0 0 ∷ a-trade 2 0 0 ∷ a-trade 3 1000000000 0 ∷ []) lawful-intermediations) (Z 1300 101)
+    -- the legs of the intermediation are not tied to it
+    ∷ asks (holding (a-trade 1 0 0 ∷ a-trade 2 0 0 ∷ a-trade 3 9 0 ∷ []) lawful-intermediations) (G 600 1 1)
+    -- a tie leads to no intermediation
+    ∷ asks (holding (a-trade 1 0 0 ∷ a-trade 2 0 0 ∷ a-trade 3 9 0 ∷ []) lawful-intermediations) (X 600 3)
     ∷ []
     ≡ A 0 0 ∷ R 9 0 ∷ R 9 0 ∷ R 9 0 ∷ R 9 0 ∷ R 9 0 ∷ R 4 0 ∷ R 4 0 ∷ R 4 0 ∷ R 9 0 ∷ R 9 0 ∷ []

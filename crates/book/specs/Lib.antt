@@ -2,6 +2,7 @@ pub mod Cases
 pub mod Effects
 pub mod Entries
 pub mod Fields
+pub mod Joining
 pub mod Lines
 pub mod Numbering
 pub mod Runs

@@ -1,4 +1,4 @@
--- Lines.
+-- Requests, accounts, answers and pairs written as in their lines, for cases and whole days.
 use mathlib.Core.Bool.{Bool}
 use mathlib.Core.List.{List, [], map, reverse, _∷_, _++_}
 use Prim.Native.Nat.{ℕ, _-_}
@@ -21,6 +21,8 @@ use Rattle.requests.specs.declared.request.Request.{Request}
 use Rattle.requests.specs.declared.request.Request.the-variants.{Cancel, Capture, Close, Confirm, ConfirmIntermediation, ExcludeIntermediation, Include, Intermediate, Remove}
 use Rattle.rows.specs.Allocations.{no-entry}
 use Rattle.book.specs.Runs.{Beginning, Call, Run, begun, ran}
+
+-- ── Requests, by their letters ──
 
 abbrev pub C : ℕ → ℕ → Kind → ℕ → ℕ → ℕ → ℕ → ℕ → ℕ → ℕ → Request
 C minute n kind asset quantity settlement b bo s so =
@@ -55,6 +57,8 @@ E minute who n = ExcludeIntermediation (record { minute = minute; participant = 
 abbrev pub Z : ℕ → ℕ → Request
 Z minute day = Close (record { minute = minute; day = day })
 
+-- ── Accounts ──
+
 abbrev pub tie : ℕ → ℕ → Party
 tie p o = record { participant = p; offeror = o }
 
@@ -62,6 +66,9 @@ abbrev pub listed : ℕ → AccountType → Status → ℕ → Bool → Bool →
 listed code class status day s d r ties =
     record { account = record { code = code; class = class; status = status; day = day; markets = record { selic = s; deposited = d; registered = r } }; ties = ties }
 
+-- ── Answers and pairs ──
+
+-- A n first: n pairs were written from row first on; T: only marked; R number place: refused
 pub data Said : Type 0 where
   A : ℕ → ℕ → Said
   T : Said
@@ -75,7 +82,8 @@ said (Err f) = R (number-of (f .ground)) (f .place)
 abbrev pub P : ℕ → ℕ → ℕ → ℕ → ℕ → ℕ → Pair
 P n first seller last buyer quantity = record { number = n; first = first; seller = seller; last = last; buyer = buyer; quantity = quantity }
 
--- a run with one register: what it answers, and the pairs at its end
+-- ── A run with one register: what it answers, and the pairs at its end ──
+
 abbrev pub calls : List Listed → List Request → List Call
 calls r [] = []
 calls r (q ∷ qs) = record { asked = q; register = r } ∷ calls r qs

@@ -31,9 +31,9 @@ use Rattle.rows.specs.declared.row.AllocationState.{AllocationState}
 use Rattle.rows.specs.declared.row.KeptEntry.{KeptEntry}
 use Rattle.rows.specs.declared.row.Trade.{Trade}
 use Rattle.chains.specs.Following.{chain, tie-in}
-use Rattle.chains.specs.Joining.{apart-in, numbers-in, short-in}
 use Rattle.book.specs.Entries.{calling, entries-of, has-account, has-client, intermediary, kept-entry, shown}
 use Rattle.book.specs.Fields.{fields-verdict}
+use Rattle.book.specs.Joining.{apart-in, numbers-in, short-in}
 use Rattle.book.specs.Numbering.{by-selic, chain-matches, completed}
 use Rattle.book.specs.State.{State, intermediation, trade}
 use Rattle.book.specs.Tests.{first-refusal, in-turn, only-if, test}

@@ -1,4 +1,3 @@
 pub mod Following
-pub mod Joining
 pub mod Paired
 pub mod Pairing

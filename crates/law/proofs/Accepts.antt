@@ -42,9 +42,9 @@ use Rattle.rows.specs.declared.row.Trade.{Trade}
 use Rattle.chains.proofs.Found.{row-key, none-by, some-by, some-not, rises-changed, rises-entered, rises-removed, none-below, all-in}
 use Rattle.chains.proofs.Walk.{put, Not0, Walk, Half, count}
 use Rattle.chains.proofs.Walks.{put-cases, put-at, member}
-use Rattle.chains.specs.Joining.{numbers-in}
 use Rattle.book.specs.Effects.{excluded, cancelled, placed, called-off, marked, excluded-by}
 use Rattle.book.specs.Entries.{whole-entry, kept-entry, entries-of, included, intermediated}
+use Rattle.book.specs.Joining.{numbers-in}
 use Rattle.book.specs.Numbering.{confirms-in, chain-confirmed, completed, chain-matches, issuer, all-numbered, numbering, with-numbers, effect}
 use Rattle.book.specs.State.{State, trade, intermediation, chain-of, with-intermediations, at-trade}
 use Rattle.law.proofs.Bridge.{as-bought, as-sold, only-side, side-view, sides-again, joined-view, excluded-view, nothing-excluded, captured-view, marked-view, voided-view}

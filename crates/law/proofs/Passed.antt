@@ -39,10 +39,10 @@ use Rattle.rows.specs.declared.row.Trade.{Trade}
 use Rattle.chains.proofs.Keys.{none-some, some-of}
 use Rattle.chains.proofs.Matches.{Positive}
 use Rattle.chains.proofs.Walk.{Not0}
-use Rattle.chains.specs.Joining.{apart-in, numbers-in, short-in}
 use Rattle.chains.specs.Pairing.{matched}
 use Rattle.book.specs.Entries.{calling, entries-of, kept-entry, no-account, shown}
 use Rattle.book.specs.Fields.{capture-fields, entries-fields, entry-fields, fields-verdict, inclusion-fields, intermediation-fields, leg-fields, side-fields}
+use Rattle.book.specs.Joining.{apart-in, numbers-in, short-in}
 use Rattle.book.specs.Numbering.{chain-matches, completed, issuer}
 use Rattle.book.specs.State.{State, intermediation, trade}
 use Rattle.book.specs.Tests.{in-turn, only-if}

@@ -34,8 +34,8 @@ use Rattle.chains.proofs.Ties.{first-is}
 use Rattle.chains.proofs.Walk.{Not0}
 use Rattle.chains.proofs.Walks.{far-next}
 use Rattle.chains.specs.Following.{chain, tie-in}
-use Rattle.chains.specs.Joining.{apart-in, numbers-in, short-in}
 use Rattle.book.specs.Entries.{entries-of, kept-entry}
+use Rattle.book.specs.Joining.{apart-in, numbers-in, short-in}
 use Rattle.book.specs.Runs.{begun}
 use Rattle.book.specs.State.{State, intermediation, trade}
 use Rattle.book.specs.Steps.{outcome, step}
