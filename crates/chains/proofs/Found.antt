@@ -1,15 +1,6 @@
 -- What a changed, an entered and a removed row do to what is found by key.
-use mathlib.Core.Bool.{Bool, true, false, cond}
-use mathlib.Core.List.{List, [], _∷_}
-use mathlib.Core.Logic.{inl, inr, ⊎-elim}
-use mathlib.Core.Path.{_≡_, refl, sym, ap, _∙_}
-use Prim.Native.Nat.{ℕ, suc, _<_, _≤_}
-use native.Mathlib.Omega.{arith}
-use lib.Dec.{eqb, ltb}
-use lib.ListN.{length}
-use Rattle.std.proofs.shelf.Tests.{cases-eq, cases-bool, ne-eqb, eq-eqb, ltb-true, ltb-false, lt-ltb, and-parts, and-from, false≢true}
-use Rattle.std.specs.declared.option.Option.{Option}
-use Rattle.std.specs.declared.option.Option.the-variants.{Some, None}
+use Rattle.chains.proofs.Words.{Bool, true, false, cond, List, [], _∷_, inl, inr, ⊎-elim, _≡_, refl, sym, ap, _∙_, ℕ, suc, _<_, _≤_, arith, eqb, ltb, length, cases-eq, cases-bool, ne-eqb, eq-eqb, ltb-true, ltb-false, and-parts, and-from, false≢true, Option, Some, None}
+use Rattle.std.proofs.shelf.Tests.{lt-ltb}
 use Rattle.keyed.specs.Lists.{or-else, is-some, all}
 use Rattle.keyed.specs.Members.{In, Each}
 use Rattle.keyed.specs.Rows.{find, changed, entered, removed, rises-above}

@@ -1,15 +1,5 @@
 -- What a changed, an entered and a removed row do to what is found by key.
-use mathlib.Core.Bool.{Bool, true, false, cond}
-use mathlib.Core.List.{List, [], _∷_, map}
-use mathlib.Core.Logic.{_⊎_, inl, inr, ⊎-elim}
-use mathlib.Core.Path.{_≡_, refl, sym, ap, subst, _∙_}
-use Prim.Native.Nat.{ℕ, suc, _+_, _-_, _≤_, _<_}
-use native.Mathlib.Omega.{arith}
-use lib.Dec.{eqb, ltb}
-use lib.ListN.{length}
-use Rattle.std.proofs.shelf.Tests.{cases-eq, cases-bool, ne-eqb, eq-eqb, and-parts, ltb-true, false≢true}
-use Rattle.std.specs.declared.option.Option.{Option}
-use Rattle.std.specs.declared.option.Option.the-variants.{Some, None}
+use Rattle.chains.proofs.Words.{Bool, true, false, cond, List, [], _∷_, map, _⊎_, inl, inr, ⊎-elim, _≡_, refl, sym, ap, subst, _∙_, ℕ, suc, _+_, _-_, _≤_, _<_, arith, eqb, ltb, length, cases-eq, cases-bool, ne-eqb, eq-eqb, and-parts, ltb-true, false≢true, Option, Some, None}
 use Rattle.keyed.specs.Lists.{or-else, is-some}
 use Rattle.keyed.specs.Members.{Each, In}
 use Rattle.keyed.specs.Rows.{find, changed, removed, entered, rises-above}

@@ -6,3 +6,4 @@ pub mod Numbering
 pub mod Ties
 pub mod Walk
 pub mod Walks
+pub mod Words

@@ -1,10 +1,5 @@
 -- Filters, sums and what holds of each, over lists put together. Assumes nothing.
-use mathlib.Core.Bool.{Bool, true, false, cond}
-use mathlib.Core.List.{List, [], _∷_, _++_}
-use mathlib.Core.Logic.{inl, inr}
-use mathlib.Core.Path.{_≡_, refl, ap, _∙_}
-use Prim.Native.Nat.{ℕ, _+_}
-use native.Mathlib.Omega.{arith}
+use Rattle.chains.proofs.Words.{Bool, true, false, cond, List, [], _∷_, _++_, inl, inr, _≡_, refl, ap, _∙_, ℕ, _+_, arith}
 use Rattle.keyed.specs.Lists.{those, sum}
 use Rattle.keyed.specs.Members.{Each, In}
 

@@ -1,14 +1,7 @@
 -- The pairs of two ends: what the entries taken in order come to. Assumes nothing.
-use mathlib.Core.Bool.{Bool, true, false, cond}
-use mathlib.Core.List.{List, [], _∷_, _++_, map, append-assoc}
-use mathlib.Core.Logic.{_⊎_, inl, inr}
-use mathlib.Core.Path.{_≡_, refl, sym, ap, _∙_}
-use Prim.Native.Nat.{ℕ, zero, suc, _+_, _-_, _<_, _≤_, min}
-use native.Mathlib.Omega.{arith}
-use lib.Dec.{eqb, ltb}
-use lib.ListN.{length, take, drop}
-use Rattle.std.proofs.shelf.Lists.{take-append-drop}
-use Rattle.std.proofs.shelf.Tests.{cond-both, cases-lt, ltb-true, ltb-false}
+use Rattle.chains.proofs.Words.{Bool, true, false, cond, List, [], _∷_, _++_, map, append-assoc, _⊎_, inl, inr, _≡_, refl, sym, ap, _∙_, ℕ, zero, suc, _+_, _-_, _<_, _≤_, arith, eqb, ltb, length, take, drop, take-append-drop, cond-both, ltb-true, ltb-false}
+use Prim.Native.Nat.{min}
+use Rattle.std.proofs.shelf.Tests.{cases-lt}
 use Rattle.fields.specs.declared.trade.Entry.{Entry}
 use Rattle.fields.specs.declared.trade.Pair.{Pair}
 use Rattle.keyed.specs.Lists.{those, sum}

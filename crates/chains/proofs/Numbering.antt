@@ -1,11 +1,5 @@
 -- What keeps full and numbered together.
-use mathlib.Core.Bool.{Bool, true, false}
-use mathlib.Core.List.{List, [], _∷_, _++_}
-use mathlib.Core.Logic.{_⊎_, inl, inr, ⊎-elim}
-use mathlib.Core.Path.{_≡_, refl, sym, ap, subst, _∙_}
-use Prim.Native.Nat.{ℕ}
-use lib.Dec.{eqb}
-use Rattle.std.proofs.shelf.Tests.{cases-eq, cases-bool, eqb-true, eqb-false, both-ways}
+use Rattle.chains.proofs.Words.{Bool, true, false, List, [], _∷_, _++_, _⊎_, inl, inr, ⊎-elim, _≡_, refl, sym, ap, subst, _∙_, ℕ, eqb, cases-eq, cases-bool, eqb-true, eqb-false, both-ways}
 use Rattle.chains.proofs.Walk.{Not0, one, far, Walk, whole, Pair, Among, Numbered, joined}
 use Rattle.chains.proofs.Walks.{one-keeps, same-far, far-stops, far-next, far-prev, far-far, far-not0, far-across, whole-parts, whole-made, whole-any}
 

@@ -1,9 +1,5 @@
 -- What a new row and a removed row do to the ties.
-use mathlib.Core.Logic.{_⊎_, inl, inr, ⊎-elim}
-use mathlib.Core.Path.{_≡_, refl, sym, ap, _∙_}
-use Prim.Native.Nat.{ℕ, _+_, _≤_}
-use native.Mathlib.Omega.{arith}
-use Rattle.std.proofs.shelf.Tests.{cases-eq, ne-eqb}
+use Rattle.chains.proofs.Words.{_⊎_, inl, inr, ⊎-elim, _≡_, refl, sym, ap, _∙_, ℕ, _+_, _≤_, arith, cases-eq, ne-eqb}
 use Rattle.chains.proofs.Walk.{put, Not0, one, far, Walk, Half, one-if, count-from, count}
 use Rattle.chains.proofs.Walks.{put-cases, put-at, put-off, one-stays, one-goes, far-is, far-stops, member}
 

@@ -1,10 +1,5 @@
 -- Walks over numbered things, where 0 stands for none.
-use mathlib.Core.Bool.{Bool, true, false, _&&_, cond}
-use mathlib.Core.List.{List, [], _∷_}
-use mathlib.Core.Logic.{_⊎_}
-use mathlib.Core.Path.{_≡_}
-use Prim.Native.Nat.{ℕ, _+_}
-use lib.Dec.{eqb}
+use Rattle.chains.proofs.Words.{Bool, true, false, _&&_, cond, List, [], _∷_, _⊎_, _≡_, ℕ, _+_, eqb}
 
 -- f with x at a; nothing is put at 0
 unfoldable pub put : {X : Type 0} → ℕ → X → (ℕ → X) → ℕ → X

@@ -1,10 +1,5 @@
 -- What a walk tells.
-use mathlib.Core.Bool.{Bool, true, false, _&&_}
-use mathlib.Core.Logic.{⊎-elim}
-use mathlib.Core.Path.{_≡_, refl, sym, ap, subst, _∙_}
-use Prim.Native.Nat.{ℕ}
-use lib.Dec.{eqb}
-use Rattle.std.proofs.shelf.Tests.{cases-eq, cases-bool, eqb-true, eqb-false, eq-eqb, ne-eqb, and-parts}
+use Rattle.chains.proofs.Words.{Bool, true, false, _&&_, ⊎-elim, _≡_, refl, sym, ap, subst, _∙_, ℕ, eqb, cases-eq, cases-bool, eqb-true, eqb-false, eq-eqb, ne-eqb, and-parts}
 use Rattle.chains.proofs.Walk.{put, Not0, one, far, Walk, whole-from, whole}
 
 -- both cases of a put

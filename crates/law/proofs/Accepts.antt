@@ -1,44 +1,7 @@
 -- Every accepted request keeps the book sound.
-use mathlib.Core.Bool.{Bool, true, false, not, _&&_, _||_, cond}
-use mathlib.Core.List.{List, [], _∷_, map}
-use mathlib.Core.Logic.{⊎-elim}
-use mathlib.Core.Path.{_≡_, refl, sym, ap, ap₂, subst, _∙_}
-use Prim.Native.Nat.{ℕ, _+_, _≤_, _<_}
-use native.Mathlib.Omega.{arith}
-use lib.Dec.{eqb}
-use lib.ListN.{length}
-use Rattle.std.proofs.shelf.Tests.{cond-both, cases-eq, eqb-true, eqb-false, eq-eqb, both-ways, and-parts, and-from, or-cases, not-true, false≢true}
-use Rattle.std.specs.declared.option.Option.{Option}
-use Rattle.std.specs.declared.option.Option.the-variants.{Some, None}
-use Rattle.fields.specs.Ranges.{in-range, numbers-or-none, accounts, numbers, participants}
-use Rattle.fields.specs.declared.trade.Intermediation.{Intermediation}
-use Rattle.fields.specs.declared.trade.Kind.{Kind}
-use Rattle.fields.specs.declared.trade.Kind.the-variants.{Selic, Deposited, Registered}
-use Rattle.fields.specs.declared.trade.Side.{Side}
-use Rattle.fields.specs.declared.trade.Side.the-variants.{Buyer, Seller}
-use Rattle.fields.specs.declared.trade.Terms.{Terms}
-use Rattle.keyed.specs.Lists.{or-else, is-some, any}
-use Rattle.keyed.specs.Members.{In}
-use Rattle.keyed.specs.Rows.{Table, find, changed, removed-in, rises-above}
-use Rattle.register.specs.Meaning.{Listed}
-use Rattle.requests.specs.declared.request.Cancellation.{Cancellation}
-use Rattle.requests.specs.declared.request.Inclusion.{Inclusion}
-use Rattle.requests.specs.declared.request.IntermediationCall.{IntermediationCall}
-use Rattle.requests.specs.declared.request.NewIntermediation.{NewIntermediation}
-use Rattle.requests.specs.declared.request.NewTrade.{NewTrade}
-use Rattle.requests.specs.declared.request.Request.{Request}
-use Rattle.requests.specs.declared.request.Request.the-variants.{Capture, Cancel, Include, Remove, Confirm, Intermediate, ConfirmIntermediation, ExcludeIntermediation, Close}
-use Rattle.requests.specs.declared.request.SideCall.{SideCall}
-use Rattle.rows.specs.Accounts.{same-kind}
-use Rattle.rows.specs.Allocations.{is-confirmed, emptied, confirmed, confirmed-if, filled, entries-held}
-use Rattle.rows.specs.InUse.{good-intermediation}
-use Rattle.rows.specs.Legs.{has-leg, id, no-intermediation, leg as leg-of, any-leg, both-legs}
-use Rattle.rows.specs.Trades.{number, allocation, at-side, numbered, captured, both-confirmed, alike, numbered-in}
-use Rattle.rows.specs.declared.row.Allocation.{Allocation}
-use Rattle.rows.specs.declared.row.AllocationState.{AllocationState}
-use Rattle.rows.specs.declared.row.AllocationState.the-variants.{Empty, Allocated, Confirmed}
-use Rattle.rows.specs.declared.row.KeptEntry.{KeptEntry}
-use Rattle.rows.specs.declared.row.Trade.{Trade}
+use Rattle.chains.proofs.Words.{Bool, true, false, not, _&&_, _||_, cond, List, [], _∷_, map, ⊎-elim, _≡_, refl, sym, ap, ap₂, subst, _∙_, ℕ, _+_, _≤_, _<_, arith, eqb, length, cond-both, cases-eq, eqb-true, eqb-false, eq-eqb, both-ways, and-parts, and-from, or-cases, not-true, false≢true, Option, Some, None}
+use Rattle.law.proofs.Subject.{in-range, numbers-or-none, accounts, numbers, participants, Intermediation, Kind, Selic, Deposited, Registered, Side, Buyer, Seller, Terms, or-else, is-some, any, In, Table, find, changed, removed-in, rises-above, Listed, Cancellation, Inclusion, IntermediationCall, NewIntermediation, NewTrade, Request, Capture, Cancel, Include, Remove, Confirm, Intermediate, ConfirmIntermediation, ExcludeIntermediation, Close, SideCall, same-kind, is-confirmed, emptied, confirmed, confirmed-if, filled, entries-held, good-intermediation, has-leg, id, no-intermediation, any-leg, both-legs, number, allocation, at-side, numbered, captured, both-confirmed, alike, numbered-in, Allocation, AllocationState, Empty, Allocated, Confirmed, KeptEntry, Trade}
+use Rattle.rows.specs.Legs.{leg as leg-of}
 use Rattle.chains.proofs.Found.{row-key, none-by, some-by, some-not, rises-changed, rises-entered, rises-removed, none-below, all-in}
 use Rattle.chains.proofs.Walk.{put, Not0, Walk, Half, count}
 use Rattle.chains.proofs.Walks.{put-cases, put-at, member}

@@ -1,14 +1,6 @@
-use mathlib.Core.Bool.{true, false≢true}
-use mathlib.Core.List.{List, [], _∷_}
-use mathlib.Core.Path.{_≡_, refl}
-use Prim.Native.Nat.{ℕ, _≤_}
-use native.Mathlib.Omega.{arith}
-use lib.ListN.{length}
-use Rattle.fields.specs.declared.trade.Side.{Side}
-use Rattle.fields.specs.declared.trade.Side.the-variants.{Buyer, Seller}
-use Rattle.keyed.specs.Members.{Each}
-use Rattle.rows.specs.Allocations.{entries-held}
-use Rattle.rows.specs.Trades.{allocation, alike}
+use Rattle.chains.proofs.Words.{true, List, [], _∷_, _≡_, refl, ℕ, _≤_, arith, length}
+use Rattle.law.proofs.Subject.{Side, Buyer, Seller, Each, entries-held, allocation, alike}
+use mathlib.Core.Bool.{false≢true}
 use Rattle.book.specs.Runs.{Beginning, begun}
 use Rattle.book.specs.State.{trade}
 use Rattle.law.specs.Law.{Beginning-lawful, Agrees, Sides, Chains, Pairs, Chain, Linked, None-twice}

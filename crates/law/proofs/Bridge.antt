@@ -1,25 +1,8 @@
 -- What each change of the tables shows by number.
-use mathlib.Core.Bool.{Bool, true, false}
-use mathlib.Core.List.{List}
-use mathlib.Core.Logic.{⊎-elim}
-use mathlib.Core.Path.{_≡_, refl, sym, ap, _∙_}
-use Prim.Native.Nat.{ℕ}
-use Rattle.std.proofs.shelf.Tests.{cases-eq, ne-eqb, eq-eqb}
-use Rattle.std.specs.declared.option.Option.the-variants.{None}
-use Rattle.fields.specs.declared.trade.Intermediation.{Intermediation}
-use Rattle.fields.specs.declared.trade.Pair.{Pair}
-use Rattle.fields.specs.declared.trade.Side.{Side}
-use Rattle.fields.specs.declared.trade.Side.the-variants.{Buyer, Seller}
-use Rattle.fields.specs.declared.trade.Terms.{Terms}
-use Rattle.keyed.specs.Lists.{or-else, is-some}
-use Rattle.keyed.specs.Rows.{find, changed, entered, removed, rises-above}
-use Rattle.rows.specs.Allocations.{emptied}
-use Rattle.rows.specs.Legs.{id, no-intermediation}
-use Rattle.rows.specs.Trades.{number, allocation, is-cancelled, is-numbered, no-trade, at-side, in-state, numbered, captured as captured-row}
+use Rattle.chains.proofs.Words.{Bool, true, false, List, ⊎-elim, _≡_, refl, sym, ap, _∙_, ℕ, cases-eq, ne-eqb, eq-eqb, None}
+use Rattle.law.proofs.Subject.{Intermediation, Pair, Side, Buyer, Seller, Terms, or-else, is-some, find, changed, entered, removed, rises-above, emptied, id, no-intermediation, number, allocation, is-cancelled, is-numbered, no-trade, at-side, numbered, AllocationState, Empty, Trade}
+use Rattle.rows.specs.Trades.{in-state, captured as captured-row}
 use Rattle.rows.specs.declared.row.Allocation.{Allocation as Half-row}
-use Rattle.rows.specs.declared.row.AllocationState.{AllocationState}
-use Rattle.rows.specs.declared.row.AllocationState.the-variants.{Empty}
-use Rattle.rows.specs.declared.row.Trade.{Trade}
 use Rattle.chains.proofs.Found.{put-same, row-entered, row-removed, still-there}
 use Rattle.chains.proofs.Ties.{put-on}
 use Rattle.chains.proofs.Walk.{put, Not0, Walk, far, joined}

@@ -1,26 +1,6 @@
 -- A sound book has lawful chains.
-use mathlib.Core.Bool.{true, _&&_}
-use mathlib.Core.List.{List, [], _∷_}
-use mathlib.Core.Logic.{inl, inr, ⊎-elim}
-use mathlib.Core.Path.{_≡_, refl, sym, ap, subst, _∙_}
-use Prim.Native.Nat.{ℕ, _≤_, _<_}
-use native.Mathlib.Omega.{arith}
-use lib.Dec.{eqb}
-use lib.ListN.{length}
-use Rattle.std.proofs.shelf.Tests.{cases-eq, eq-eqb, and-from}
-use Rattle.fields.specs.declared.trade.Intermediation.{Intermediation}
-use Rattle.fields.specs.declared.trade.Kind.{Kind}
-use Rattle.fields.specs.declared.trade.Kind.the-variants.{Selic, Deposited, Registered}
-use Rattle.fields.specs.declared.trade.Side.{Side}
-use Rattle.fields.specs.declared.trade.Side.the-variants.{Buyer}
-use Rattle.fields.specs.declared.trade.Terms.{Terms}
-use Rattle.keyed.specs.Lists.{or-else, is-some}
-use Rattle.keyed.specs.Members.{In, Each}
-use Rattle.keyed.specs.Rows.{find}
-use Rattle.rows.specs.Accounts.{same-kind}
-use Rattle.rows.specs.Legs.{id, leg, no-intermediation}
-use Rattle.rows.specs.Trades.{number, allocation, no-trade, alike}
-use Rattle.rows.specs.declared.row.Trade.{Trade}
+use Rattle.chains.proofs.Words.{true, _&&_, List, [], _∷_, inl, inr, ⊎-elim, _≡_, refl, sym, ap, subst, _∙_, ℕ, _≤_, _<_, arith, eqb, length, cases-eq, eq-eqb, and-from}
+use Rattle.law.proofs.Subject.{Intermediation, Kind, Selic, Deposited, Registered, Side, Buyer, Terms, or-else, is-some, In, Each, find, same-kind, id, leg, no-intermediation, number, allocation, no-trade, alike, Trade}
 use Rattle.chains.proofs.Found.{row-key, none-by, some-by, some-not, in-row, each-by}
 use Rattle.chains.proofs.Walk.{Not0}
 use Rattle.book.specs.State.{State, trade, intermediation}

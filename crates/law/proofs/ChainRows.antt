@@ -1,30 +1,8 @@
 -- The trades of a completed chain are rows, with the terms that the plain book has. Assumes nothing.
-use mathlib.Core.Bool.{Bool, true, false, cond}
-use mathlib.Core.List.{List, [], _∷_, _++_, map, reverse, reverse-append}
-use mathlib.Core.Logic.{⊎-elim}
-use mathlib.Core.Path.{_≡_, refl, sym, ap, subst, _∙_}
-use Prim.Native.Nat.{ℕ, zero, suc}
-use native.Mathlib.Omega.{arith}
-use lib.Dec.{eqb, leb}
-use lib.ListN.{length}
-use Rattle.std.proofs.shelf.Tests.{cases-bool, cond-both, eqb-true}
-use Rattle.std.specs.declared.option.Option.{Option}
-use Rattle.std.specs.declared.option.Option.the-variants.{Some, None}
-use Rattle.fields.specs.declared.trade.Intermediation.{Intermediation}
-use Rattle.fields.specs.declared.trade.Side.{Side}
-use Rattle.fields.specs.declared.trade.Side.the-variants.{Buyer, Seller}
-use Rattle.keyed.specs.Lists.{or-else, all, is-some}
-use Rattle.keyed.specs.Members.{Each}
-use Rattle.keyed.specs.Rows.{find, changed}
-use Rattle.register.specs.Meaning.{Listed}
-use Rattle.requests.specs.declared.request.Request.{Request}
-use Rattle.requests.specs.declared.request.Request.the-variants.{Capture, Cancel, Include, Remove, Confirm, Intermediate, ConfirmIntermediation, ExcludeIntermediation, Close}
-use Rattle.rows.specs.Accounts.{is-selic}
-use Rattle.rows.specs.Allocations.{other, confirmed}
-use Rattle.rows.specs.Legs.{id, leg}
-use Rattle.rows.specs.Trades.{number, both-confirmed, at-side, no-trade}
-use Rattle.rows.specs.declared.row.Allocation.{Allocation}
-use Rattle.rows.specs.declared.row.Trade.{Trade}
+use Rattle.chains.proofs.Words.{Bool, true, false, cond, List, [], _∷_, _++_, map, ⊎-elim, _≡_, refl, sym, ap, subst, _∙_, ℕ, zero, suc, arith, eqb, length, cases-bool, cond-both, eqb-true, Option, Some, None}
+use Rattle.law.proofs.Subject.{Intermediation, Side, Buyer, Seller, or-else, all, is-some, Each, find, changed, Listed, Request, Capture, Cancel, Include, Remove, Confirm, Intermediate, ConfirmIntermediation, ExcludeIntermediation, Close, is-selic, other, confirmed, id, leg, number, both-confirmed, at-side, no-trade, Allocation, Trade}
+use lib.Dec.{leb}
+use mathlib.Core.List.{reverse, reverse-append}
 use Rattle.chains.proofs.Found.{none-by, some-by}
 use Rattle.chains.proofs.Lists.{each-append, each-map}
 use Rattle.chains.specs.Following.{Beyond, nothing, broken, tied-back, by-intermediation, beyond, onto, way, together, chain, a-trade, by-tie, tie-in, tie-of, onward}

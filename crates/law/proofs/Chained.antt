@@ -1,22 +1,7 @@
 -- In a sound book the chain that is followed is the walk.
-use mathlib.Core.Bool.{Bool, true, false, _&&_, _||_, cond}
-use mathlib.Core.List.{List, [], _∷_, map}
-use mathlib.Core.Logic.{⊎-elim}
-use mathlib.Core.Path.{_≡_, refl, sym, ap, ap₂, _∙_}
-use Prim.Native.Nat.{ℕ, suc}
-use lib.Dec.{eqb}
-use lib.ListN.{length}
-use Rattle.std.proofs.shelf.Tests.{cases-eq, cases-bool, ne-eqb, eq-eqb, or-parts}
-use Rattle.std.specs.declared.option.Option.the-variants.{Some}
-use Rattle.fields.specs.declared.trade.Intermediation.{Intermediation}
-use Rattle.fields.specs.declared.trade.Side.{Side}
-use Rattle.fields.specs.declared.trade.Side.the-variants.{Buyer, Seller}
-use Rattle.keyed.specs.Lists.{or-else, is-some, all, any}
-use Rattle.keyed.specs.Rows.{find}
-use Rattle.rows.specs.Allocations.{other}
-use Rattle.rows.specs.Legs.{id, leg, no-intermediation}
-use Rattle.rows.specs.Trades.{number, allocation, no-trade}
-use Rattle.rows.specs.declared.row.Trade.{Trade}
+use Rattle.chains.proofs.Words.{Bool, true, false, _&&_, _||_, cond, List, [], _∷_, map, ⊎-elim, _≡_, refl, sym, ap, ap₂, _∙_, ℕ, suc, eqb, length, cases-eq, cases-bool, ne-eqb, eq-eqb, Some}
+use Rattle.law.proofs.Subject.{Intermediation, Side, Buyer, Seller, or-else, is-some, all, any, find, other, id, leg, no-intermediation, number, allocation, no-trade, Trade}
+use Rattle.std.proofs.shelf.Tests.{or-parts}
 use Rattle.chains.proofs.Found.{row-key, some-by, none-by}
 use Rattle.chains.proofs.Ties.{first-is}
 use Rattle.chains.proofs.Walk.{Not0, one, far, Walk, Half, count-from, whole-from}

@@ -1,27 +1,7 @@
 -- The pairs of a completed chain are as the law asks. Assumes nothing.
-use mathlib.Core.Bool.{Bool, true, false, cond, _&&_, false≢true}
-use mathlib.Core.List.{List, [], _∷_, _++_, map}
-use mathlib.Core.Path.{_≡_, refl, sym, ap, subst, _∙_}
-use Prim.Native.Nat.{ℕ, _<_, _≤_}
-use native.Mathlib.Omega.{arith}
-use lib.Dec.{eqb}
-use lib.ListN.{length}
-use Rattle.std.proofs.shelf.Tests.{and-parts, eqb-true}
-use Rattle.std.specs.declared.option.Option.{Option}
-use Rattle.std.specs.declared.option.Option.the-variants.{Some, None}
-use Rattle.fields.specs.declared.trade.Entry.{Entry}
-use Rattle.fields.specs.declared.trade.Side.{Side}
-use Rattle.fields.specs.declared.trade.Side.the-variants.{Buyer, Seller}
-use Rattle.fields.specs.declared.trade.Terms.{Terms}
-use Rattle.keyed.specs.Lists.{or-else}
-use Rattle.keyed.specs.Members.{Each}
-use Rattle.keyed.specs.Rows.{Table, find, changed-in}
-use Rattle.rows.specs.Accounts.{same-kind}
-use Rattle.rows.specs.Allocations.{is-empty, is-confirmed, total, entries-held}
-use Rattle.rows.specs.Trades.{number, allocation, both-confirmed, alike, numbered, no-trade}
-use Rattle.rows.specs.declared.row.AllocationState.{AllocationState}
-use Rattle.rows.specs.declared.row.AllocationState.the-variants.{Empty, Allocated, Confirmed}
-use Rattle.rows.specs.declared.row.Trade.{Trade}
+use Rattle.chains.proofs.Words.{Bool, true, false, cond, _&&_, List, [], _∷_, _++_, map, _≡_, refl, sym, ap, subst, _∙_, ℕ, _<_, _≤_, arith, eqb, length, and-parts, eqb-true, Option, Some, None}
+use Rattle.law.proofs.Subject.{Entry, Side, Buyer, Seller, Terms, or-else, Each, Table, find, changed-in, same-kind, is-empty, is-confirmed, total, entries-held, number, allocation, both-confirmed, alike, numbered, no-trade, AllocationState, Empty, Allocated, Confirmed, Trade}
+use mathlib.Core.Bool.{false≢true}
 use Rattle.chains.proofs.Lists.{each-map}
 use Rattle.chains.proofs.Matches.{Level, pairs-paired}
 use Rattle.chains.specs.Following.{last-of}

@@ -1,24 +1,7 @@
 -- A call that confirms leaves the book sound: a chain that it completes is numbered.
-use mathlib.Core.Bool.{true, false, cond}
-use mathlib.Core.List.{List, [], _∷_, _++_, map, map-append}
-use mathlib.Core.Logic.{inl, inr, ⊎-elim}
-use mathlib.Core.Path.{_≡_, refl, sym, ap, ap₂, subst, fun-ext, _∙_}
-use Prim.Native.Nat.{ℕ, zero, suc, _+_, _≤_, _<_}
-use native.Mathlib.Omega.{arith}
-use lib.ListN.{length}
-use Rattle.std.proofs.shelf.Tests.{cases-eq, cases-bool, ne-eqb, eq-eqb, and-parts, not-true, false≢true}
-use Rattle.std.specs.declared.option.Option.the-variants.{Some, None}
-use Rattle.fields.specs.declared.trade.Entry.{Entry}
-use Rattle.fields.specs.declared.trade.Intermediation.{Intermediation}
-use Rattle.fields.specs.declared.trade.Pair.{Pair}
-use Rattle.fields.specs.declared.trade.Side.{Side}
-use Rattle.fields.specs.declared.trade.Side.the-variants.{Buyer, Seller}
-use Rattle.keyed.specs.Lists.{or-else, is-some, all}
-use Rattle.keyed.specs.Rows.{Table, find, changed}
-use Rattle.rows.specs.Allocations.{entries-held}
-use Rattle.rows.specs.Trades.{number, numbered, both-confirmed}
-use Rattle.rows.specs.declared.row.AllocationState.the-variants.{Confirmed}
-use Rattle.rows.specs.declared.row.Trade.{Trade}
+use Rattle.chains.proofs.Words.{true, false, cond, List, [], _∷_, _++_, map, inl, inr, ⊎-elim, _≡_, refl, sym, ap, ap₂, subst, fun-ext, _∙_, ℕ, zero, suc, _+_, _≤_, _<_, arith, length, cases-eq, cases-bool, ne-eqb, eq-eqb, and-parts, not-true, false≢true, Some, None}
+use Rattle.law.proofs.Subject.{Entry, Intermediation, Pair, Side, Buyer, Seller, or-else, is-some, all, Table, find, changed, entries-held, number, numbered, both-confirmed, Confirmed, Trade}
+use mathlib.Core.List.{map-append}
 use Rattle.chains.proofs.Found.{row-past, some-not, none-by}
 use Rattle.chains.proofs.Walk.{put, Not0, Walk, Half, Among, Pair as Ends, pair}
 use Rattle.chains.proofs.Walks.{put-cases, far-not0, far-keeps, far-far, far-across, whole-parts, whole-any, turned}

@@ -1,11 +1,6 @@
 -- A confirmation keeps the book sound.
-use mathlib.Core.Bool.{true, false}
-use mathlib.Core.List.{List}
-use mathlib.Core.Logic.{_⊎_, inl, inr, ⊎-elim}
-use mathlib.Core.Path.{_≡_, refl, sym, ap, _∙_}
-use Prim.Native.Nat.{ℕ}
-use Rattle.std.proofs.shelf.Tests.{cases-eq, ne-eqb, eq-eqb}
-use Rattle.rows.specs.declared.row.AllocationState.the-variants.{Empty, Confirmed}
+use Rattle.chains.proofs.Words.{true, false, List, _⊎_, inl, inr, ⊎-elim, _≡_, refl, sym, ap, _∙_, ℕ, cases-eq, ne-eqb, eq-eqb}
+use Rattle.law.proofs.Subject.{Empty, Confirmed}
 use Rattle.chains.proofs.Numbering.{confirmed-part, confirmed-whole}
 use Rattle.chains.proofs.Walk.{put, Not0, Walk, Pair, Among}
 use Rattle.chains.proofs.Walks.{put-cases, far-next}

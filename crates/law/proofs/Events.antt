@@ -1,26 +1,6 @@
 -- What every request keeps of the pairs that needs no chains: the rows, the answers, the numbers. Assumes nothing.
-use mathlib.Core.Bool.{false, cond, true≢false}
-use mathlib.Core.List.{List, [], _∷_, _++_}
-use mathlib.Core.Path.{_≡_, refl, sym, ap, subst, _∙_}
-use Prim.Native.Nat.{ℕ, _≤_}
-use native.Mathlib.Omega.{arith}
-use lib.ListN.{length, take, drop}
-use Rattle.std.proofs.shelf.Tests.{cond-both}
-use Rattle.std.specs.declared.option.Option.{Option}
-use Rattle.std.specs.declared.option.Option.the-variants.{Some, None}
-use Rattle.std.specs.declared.result.Result.the-variants.{Ok}
-use Rattle.fields.specs.declared.answer.Answer.{Answer}
-use Rattle.fields.specs.declared.answer.Answer.the-variants.{Written, Marked}
-use Rattle.fields.specs.declared.trade.Intermediation.{Intermediation}
-use Rattle.keyed.specs.Rows.{find}
-use Rattle.register.specs.Meaning.{Listed}
-use Rattle.requests.specs.declared.request.Closing.{Closing}
-use Rattle.requests.specs.declared.request.Request.{Request}
-use Rattle.requests.specs.declared.request.Request.the-variants.{Capture, Cancel, Include, Remove, Confirm, Intermediate, ConfirmIntermediation, ExcludeIntermediation, Close}
-use Rattle.rows.specs.Accounts.{is-selic}
-use Rattle.rows.specs.Legs.{id}
-use Rattle.rows.specs.Trades.{number, both-confirmed}
-use Rattle.rows.specs.declared.row.Trade.{Trade}
+use Rattle.chains.proofs.Words.{false, cond, true≢false, List, [], _∷_, _++_, _≡_, refl, sym, ap, subst, _∙_, ℕ, _≤_, arith, length, take, drop, cond-both, Option, Some, None, Ok}
+use Rattle.law.proofs.Subject.{Answer, Written, Marked, Intermediation, find, Listed, Closing, Request, Capture, Cancel, Include, Remove, Confirm, Intermediate, ConfirmIntermediation, ExcludeIntermediation, Close, is-selic, id, number, both-confirmed, Trade}
 use Rattle.chains.proofs.Lists.{each-map}
 use Rattle.chains.proofs.Matches.{numbers-given, length-given, all-name}
 use Rattle.chains.specs.Pairing.{matched}

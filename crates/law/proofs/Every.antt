@@ -1,22 +1,6 @@
 -- Every run is lawful.
-use mathlib.Core.Bool.{true, false, cond, _&&_}
-use mathlib.Core.List.{List, [], _∷_}
-use mathlib.Core.Logic.{_⊎_, inl, inr, ⊎-elim}
-use mathlib.Core.Path.{_≡_, refl, sym, ap, subst, _∙_}
-use Prim.Native.Nat.{ℕ, _≤_}
-use lib.Dec.{eqb}
-use lib.ListN.{length}
-use Rattle.std.proofs.shelf.Tests.{cases-bool}
-use Rattle.std.specs.declared.option.Option.{Option}
-use Rattle.std.specs.declared.option.Option.the-variants.{Some, None}
-use Rattle.std.specs.declared.result.Result.the-variants.{Ok}
-use Rattle.fields.specs.declared.answer.Refusal.{Refusal}
-use Rattle.keyed.specs.Lists.{those}
-use Rattle.keyed.specs.Members.{Each}
-use Rattle.register.specs.Meaning.{Listed}
-use Rattle.requests.specs.declared.request.Request.{Request}
-use Rattle.requests.specs.declared.request.Request.the-variants.{Capture, Cancel, Include, Remove, Confirm, Intermediate, ConfirmIntermediation, ExcludeIntermediation, Close}
-use Rattle.rows.specs.declared.row.Trade.{Trade}
+use Rattle.chains.proofs.Words.{true, false, cond, _&&_, List, [], _∷_, _⊎_, inl, inr, ⊎-elim, _≡_, refl, sym, ap, subst, _∙_, ℕ, _≤_, eqb, length, cases-bool, Option, Some, None, Ok}
+use Rattle.law.proofs.Subject.{Refusal, those, Each, Listed, Request, Capture, Cancel, Include, Remove, Confirm, Intermediate, ConfirmIntermediation, ExcludeIntermediation, Close, Trade}
 use Rattle.book.specs.Effects.{placed}
 use Rattle.book.specs.Numbering.{reply, if-all-confirmed, chain-confirmed, completed, chain-matches, issuer, with-numbers, confirms-in, effect}
 use Rattle.book.specs.Runs.{History, Beginning, Call, event, rows-named, Run, stepped, ran, begun}

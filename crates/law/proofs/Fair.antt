@@ -1,33 +1,7 @@
 -- The parts of the law that a request's own changes keep: agreement with the plain book, and the sides.
-use mathlib.Core.Bool.{Bool, true, false, cond, not, _&&_}
-use mathlib.Core.List.{List, [], _∷_, map}
-use mathlib.Core.Logic.{⊎-elim}
-use mathlib.Core.Path.{_≡_, refl, sym, ap, subst, _∙_}
-use Prim.Native.Nat.{ℕ, _+_}
-use lib.Dec.{eqb}
-use lib.ListN.{length, drop}
-use Rattle.std.proofs.shelf.Lists.{length-append, take-at}
-use Rattle.std.proofs.shelf.Tests.{cases-eq, cases-bool, eqb-true, false≢true}
-use Rattle.std.specs.declared.option.Option.{Option}
-use Rattle.std.specs.declared.option.Option.the-variants.{Some, None}
-use Rattle.std.specs.declared.result.Result.the-variants.{Ok}
-use Rattle.fields.specs.declared.answer.Answer.{Answer}
-use Rattle.fields.specs.declared.trade.Entry.{Entry}
-use Rattle.fields.specs.declared.trade.Pair.{Pair}
-use Rattle.fields.specs.declared.trade.Side.{Side}
-use Rattle.fields.specs.declared.trade.Side.the-variants.{Buyer, Seller}
-use Rattle.fields.specs.declared.trade.Terms.{Terms}
-use Rattle.keyed.specs.Lists.{or-else, is-some}
-use Rattle.keyed.specs.Members.{Each}
-use Rattle.keyed.specs.Rows.{Table, find, changed, changed-in}
-use Rattle.register.specs.Meaning.{Listed}
-use Rattle.requests.specs.declared.request.Request.{Request}
-use Rattle.rows.specs.Allocations.{held, is-empty, filled, confirmed, confirmed-if, total, entries-held}
-use Rattle.rows.specs.Trades.{number, allocation, at-side, no-trade, numbered}
-use Rattle.rows.specs.declared.row.Allocation.{Allocation}
-use Rattle.rows.specs.declared.row.AllocationState.{AllocationState}
-use Rattle.rows.specs.declared.row.KeptEntry.{KeptEntry}
-use Rattle.rows.specs.declared.row.Trade.{Trade}
+use Rattle.chains.proofs.Words.{Bool, true, false, cond, not, _&&_, List, [], _∷_, map, ⊎-elim, _≡_, refl, sym, ap, subst, _∙_, ℕ, _+_, eqb, length, drop, take-at, cases-eq, cases-bool, eqb-true, false≢true, Option, Some, None, Ok}
+use Rattle.law.proofs.Subject.{Answer, Entry, Pair, Side, Buyer, Seller, Terms, or-else, is-some, Each, Table, find, changed, changed-in, Listed, Request, held, is-empty, filled, confirmed, confirmed-if, total, entries-held, number, allocation, at-side, no-trade, numbered, Allocation, AllocationState, KeptEntry, Trade}
+use Rattle.std.proofs.shelf.Lists.{length-append}
 use Rattle.chains.proofs.Keys.{mapped, row-map, map-changed, length-changed, seen-put, seen-kept, each-changed, each-row, none-some, row-changed-same, row-changed-other}
 use Rattle.book.specs.Entries.{kept-entry}
 use Rattle.book.specs.Numbering.{all-numbered, numbering, with-numbers, new-pairs}

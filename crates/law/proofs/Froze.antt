@@ -1,23 +1,6 @@
 -- What is numbered stays as it is.
-use mathlib.Core.Bool.{Bool, true, false, cond}
-use mathlib.Core.List.{List, [], _∷_}
-use mathlib.Core.Logic.{⊎-elim}
-use mathlib.Core.Path.{_≡_, refl, sym, ap, ap₂, subst, _∙_}
-use Prim.Native.Nat.{ℕ}
-use lib.Dec.{eqb}
-use Rattle.std.proofs.shelf.Tests.{cases-eq, ne-eqb, eq-eqb, both-ways}
-use Rattle.std.specs.declared.option.Option.{Option}
-use Rattle.std.specs.declared.option.Option.the-variants.{Some, None}
-use Rattle.fields.specs.declared.trade.Intermediation.{Intermediation}
-use Rattle.fields.specs.declared.trade.Side.{Side}
-use Rattle.fields.specs.declared.trade.Side.the-variants.{Buyer, Seller}
-use Rattle.keyed.specs.Lists.{or-else}
-use Rattle.keyed.specs.Members.{Each}
-use Rattle.keyed.specs.Rows.{find, changed, entered, removed}
-use Rattle.rows.specs.Allocations.{entries-held}
-use Rattle.rows.specs.Legs.{id, leg, no-intermediation}
-use Rattle.rows.specs.Trades.{number, allocation, is-numbered, no-trade}
-use Rattle.rows.specs.declared.row.Trade.{Trade}
+use Rattle.chains.proofs.Words.{Bool, true, false, cond, List, [], _∷_, ⊎-elim, _≡_, refl, sym, ap, ap₂, subst, _∙_, ℕ, eqb, cases-eq, ne-eqb, eq-eqb, both-ways, Option, Some, None}
+use Rattle.law.proofs.Subject.{Intermediation, Side, Buyer, Seller, or-else, Each, find, changed, entered, removed, entries-held, id, leg, no-intermediation, number, allocation, is-numbered, no-trade, Trade}
 use Rattle.chains.proofs.Found.{omap, row-changed, row-entered, row-removed}
 use Rattle.chains.proofs.Walk.{Not0}
 use Rattle.book.specs.State.{State, trade, intermediation}

@@ -1,16 +1,6 @@
 -- The chains that are whole and confirmed are those that are numbered, and what keeps the numbered trades keeps them.
-use mathlib.Core.Bool.{true, false, not, _&&_, cond}
-use mathlib.Core.List.{List, [], _∷_}
-use mathlib.Core.Logic.{⊎-elim}
-use mathlib.Core.Path.{_≡_, refl, sym, ap, subst, _∙_}
-use Prim.Native.Nat.{ℕ}
-use native.Mathlib.Omega.{arith}
-use lib.Dec.{eqb}
-use Rattle.std.proofs.shelf.Tests.{cases-eq, cases-bool, ne-eqb, eq-eqb, both-ways, and-parts, and-from}
-use Rattle.keyed.specs.Lists.{is-some}
-use Rattle.keyed.specs.Members.{Each}
-use Rattle.keyed.specs.Rows.{find}
-use Rattle.rows.specs.Trades.{number, both-confirmed}
+use Rattle.chains.proofs.Words.{true, false, not, _&&_, cond, List, [], _∷_, ⊎-elim, _≡_, refl, sym, ap, subst, _∙_, ℕ, arith, eqb, cases-eq, cases-bool, ne-eqb, eq-eqb, both-ways, and-parts, and-from}
+use Rattle.law.proofs.Subject.{is-some, Each, find, number, both-confirmed}
 use Rattle.chains.proofs.Ties.{first-is}
 use Rattle.chains.proofs.Walk.{Not0, Walk, whole-from}
 use Rattle.chains.proofs.Walks.{far-is, one-stays, one-goes, turned, far-stops, whole-made}

@@ -1,22 +1,10 @@
 -- One more event: the pairs written, the rows named, the numbers given. Assumes nothing.
-use mathlib.Core.Bool.{Bool, true, false, cond, _&&_, Bool·beq}
-use mathlib.Core.List.{List, [], _∷_, _++_, map, append-nil, append-assoc}
-use mathlib.Core.Logic.{inl, inr}
-use mathlib.Core.Path.{_≡_, refl, sym, ap, subst, _∙_}
-use Prim.Native.Nat.{ℕ, _+_, _-_}
-use native.Mathlib.Omega.{arith}
-use lib.Dec.{eqb}
-use lib.ListN.{length, take, drop}
-use Rattle.std.proofs.shelf.Lists.{take-append-drop, take-all, drop-at}
-use Rattle.std.proofs.shelf.Tests.{and-from, and-left, and-right, cases-bool, cond-both, eqb-true, eqb-false, eq-eqb, ne-eqb}
-use Rattle.std.specs.declared.result.Result.the-variants.{Ok, Err}
-use Rattle.fields.specs.declared.answer.Answer.{Answer}
-use Rattle.fields.specs.declared.answer.Answer.the-variants.{Written, Marked}
-use Rattle.fields.specs.declared.answer.Refusal.{Refusal}
-use Rattle.fields.specs.declared.trade.Pair.{Pair}
-use Rattle.keyed.specs.Lists.{those}
-use Rattle.keyed.specs.Members.{Each}
-use Rattle.rows.specs.Accounts.{is-selic}
+use Rattle.chains.proofs.Words.{Bool, true, false, cond, _&&_, List, [], _∷_, _++_, map, append-assoc, inl, inr, _≡_, refl, sym, ap, subst, _∙_, ℕ, _+_, _-_, arith, eqb, length, take, drop, take-append-drop, and-from, cases-bool, cond-both, eqb-true, eqb-false, eq-eqb, ne-eqb, Ok, Err}
+use Rattle.law.proofs.Subject.{Answer, Written, Marked, Refusal, Pair, those, Each, is-selic}
+use Rattle.std.proofs.shelf.Lists.{take-all, drop-at}
+use Rattle.std.proofs.shelf.Tests.{and-left, and-right}
+use mathlib.Core.Bool.{Bool·beq}
+use mathlib.Core.List.{append-nil}
 use Rattle.chains.proofs.Lists.{each-map, each-append, those-append, those-all, those-none}
 use Rattle.book.specs.Numbering.{written}
 use Rattle.book.specs.Runs.{Event, History, Beginning, Call, event, rows-named}

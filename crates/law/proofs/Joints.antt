@@ -1,38 +1,6 @@
 -- Requests for an intermediation, and a cancellation.
-use mathlib.Core.Bool.{Bool, true, false, cond, _&&_, _||_}
-use mathlib.Core.List.{List, [], _∷_, map}
-use mathlib.Core.Logic.{⊎-elim}
-use mathlib.Core.Path.{_≡_, refl, sym, ap, ap₂, subst, _∙_}
-use Prim.Native.Nat.{ℕ, _<_, zero}
-use native.Mathlib.Omega.{arith}
-use lib.Dec.{eqb}
-use Rattle.std.proofs.shelf.Tests.{cases-bool, and-parts, and-from, false≢true}
-use Rattle.std.specs.declared.option.Option.{Option}
-use Rattle.std.specs.declared.option.Option.the-variants.{Some, None}
-use Rattle.fields.specs.declared.answer.Answer.{Answer}
-use Rattle.fields.specs.declared.answer.Answer.the-variants.{Written, Marked}
-use Rattle.fields.specs.declared.trade.Entry.{Entry}
-use Rattle.fields.specs.declared.trade.Intermediation.{Intermediation}
-use Rattle.fields.specs.declared.trade.Kind.{Kind}
-use Rattle.fields.specs.declared.trade.Kind.the-variants.{Selic, Deposited, Registered}
-use Rattle.fields.specs.declared.trade.Side.{Side}
-use Rattle.fields.specs.declared.trade.Side.the-variants.{Buyer, Seller}
-use Rattle.fields.specs.declared.trade.Terms.{Terms}
-use Rattle.keyed.specs.Lists.{or-else, is-some, those, any}
-use Rattle.keyed.specs.Rows.{find, changed, removed, rises-above}
-use Rattle.register.specs.Meaning.{Listed, account-in, tied-in}
-use Rattle.requests.specs.declared.request.Cancellation.{Cancellation}
-use Rattle.requests.specs.declared.request.IntermediationCall.{IntermediationCall}
-use Rattle.requests.specs.declared.request.NewIntermediation.{NewIntermediation}
-use Rattle.requests.specs.declared.request.Request.the-variants.{Cancel, Intermediate, ConfirmIntermediation, ExcludeIntermediation}
-use Rattle.rows.specs.Accounts.{active, suits, same-kind}
-use Rattle.rows.specs.Allocations.{held, is-empty, confirmed, total}
-use Rattle.rows.specs.Legs.{no-intermediation, id, leg, has-leg}
-use Rattle.rows.specs.Trades.{number, allocation, party, no-trade, both-confirmed}
-use Rattle.rows.specs.declared.row.Allocation.{Allocation}
-use Rattle.rows.specs.declared.row.AllocationState.the-variants.{Empty, Confirmed}
-use Rattle.rows.specs.declared.row.KeptEntry.{KeptEntry}
-use Rattle.rows.specs.declared.row.Trade.{Trade}
+use Rattle.chains.proofs.Words.{Bool, true, false, cond, _&&_, _||_, List, [], _∷_, map, ⊎-elim, _≡_, refl, sym, ap, ap₂, subst, _∙_, ℕ, _<_, zero, arith, eqb, cases-bool, and-parts, and-from, false≢true, Option, Some, None}
+use Rattle.law.proofs.Subject.{Answer, Written, Marked, Entry, Intermediation, Kind, Selic, Deposited, Registered, Side, Buyer, Seller, Terms, or-else, is-some, those, any, find, changed, removed, rises-above, Listed, account-in, tied-in, Cancellation, IntermediationCall, NewIntermediation, Cancel, Intermediate, ConfirmIntermediation, ExcludeIntermediation, active, suits, same-kind, held, is-empty, confirmed, total, no-intermediation, id, leg, has-leg, number, allocation, party, no-trade, both-confirmed, Allocation, Empty, Confirmed, KeptEntry, Trade}
 use Rattle.chains.proofs.Keys.{some-of, none-some, seen-kept, each-changed, map-changed, length-changed}
 use Rattle.book.specs.Effects.{excluded, cancelled, placed, called-off, marked}
 use Rattle.book.specs.Entries.{whole-entry, kept-entry, shown, no-account, intermediated}

@@ -1,11 +1,6 @@
 -- Each part of a request keeps the book sound.
-use mathlib.Core.Bool.{Bool, true, false, not, _&&_}
-use mathlib.Core.Logic.{_⊎_, inl, inr, ⊎-elim}
-use mathlib.Core.Path.{_≡_, refl, sym, ap, ap₂, subst, fun-ext, _∙_}
-use Prim.Native.Nat.{ℕ, _+_, _≤_}
-use Rattle.std.proofs.shelf.Tests.{cases-eq, cases-bool, eq-eqb, ne-eqb, both-ways, and-parts, false≢true}
-use Rattle.rows.specs.declared.row.AllocationState.{AllocationState}
-use Rattle.rows.specs.declared.row.AllocationState.the-variants.{Empty}
+use Rattle.chains.proofs.Words.{Bool, true, false, not, _&&_, _⊎_, inl, inr, ⊎-elim, _≡_, refl, sym, ap, ap₂, subst, fun-ext, _∙_, ℕ, _+_, _≤_, cases-eq, cases-bool, eq-eqb, ne-eqb, both-ways, and-parts, false≢true}
+use Rattle.law.proofs.Subject.{AllocationState, Empty}
 use Rattle.chains.proofs.Numbering.{relinked, refilled}
 use Rattle.chains.proofs.Ties.{walk-of, half-linked, half-unlinked, next-linked, next-unlinked, short-cut, short-linked, count-fits, first-is}
 use Rattle.chains.proofs.Walk.{put, Not0, Walk, Half, count}

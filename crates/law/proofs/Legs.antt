@@ -1,25 +1,8 @@
 -- One leg, or one row of the intermediations, changed.
-use mathlib.Core.Bool.{Bool, true, false, cond, not, _&&_}
-use mathlib.Core.List.{List, [], map}
-use mathlib.Core.Path.{_≡_, refl, sym, ap, subst, subst₂, _∙_}
-use Prim.Native.Nat.{ℕ, _+_, _-_}
-use lib.Dec.{eqb}
-use Rattle.std.proofs.shelf.Tests.{eqb-true, ne-eqb, and-parts, false≢true, true≢false}
-use Rattle.std.specs.declared.option.Option.{Option}
-use Rattle.std.specs.declared.option.Option.the-variants.{Some, None}
-use Rattle.fields.specs.declared.trade.Intermediation.{Intermediation}
-use Rattle.fields.specs.declared.trade.Side.{Side}
-use Rattle.fields.specs.declared.trade.Side.the-variants.{Buyer, Seller}
-use Rattle.keyed.specs.Lists.{or-else, is-some}
-use Rattle.keyed.specs.Rows.{find, changed, removed, entered, entered-in, removed-in}
-use Rattle.rows.specs.Allocations.{held, is-empty, emptied, confirmed, total}
-use Rattle.rows.specs.Legs.{id}
-use Rattle.rows.specs.Trades.{number, allocation, at-side, no-trade}
-use Rattle.rows.specs.declared.row.Allocation.{Allocation}
-use Rattle.rows.specs.declared.row.AllocationState.{AllocationState}
-use Rattle.rows.specs.declared.row.AllocationState.the-variants.{Empty, Confirmed}
-use Rattle.rows.specs.declared.row.KeptEntry.{KeptEntry}
-use Rattle.rows.specs.declared.row.Trade.{Trade}
+use Rattle.chains.proofs.Words.{Bool, true, false, cond, not, _&&_, List, [], map, _≡_, refl, sym, ap, subst, subst₂, _∙_, ℕ, _+_, _-_, eqb, eqb-true, ne-eqb, and-parts, false≢true, Option, Some, None}
+use Rattle.law.proofs.Subject.{Intermediation, Side, Buyer, Seller, or-else, is-some, find, changed, removed, entered, removed-in, held, is-empty, emptied, confirmed, total, id, number, allocation, at-side, no-trade, Allocation, AllocationState, Empty, Confirmed, KeptEntry, Trade}
+use Rattle.std.proofs.shelf.Tests.{true≢false}
+use Rattle.keyed.specs.Rows.{entered-in}
 use Rattle.chains.proofs.Keys.{none-some, row-found, length-entered, length-removed, removed-absent, seen-put, each-changed, map-changed, changed-twice, length-changed}
 use Rattle.book.specs.Effects.{excluded, cancelled, excluded-by}
 use Rattle.book.specs.State.{State, trade, at-trade, with-intermediations}

@@ -17,9 +17,9 @@ pub mod Joints
 pub mod Kept
 pub mod Legs
 pub mod OneTrade
-pub mod Passed
 pub mod Opens
 pub mod PairLaw
+pub mod Passed
 pub mod Picks
 pub mod Placed
 pub mod Quantities
@@ -28,5 +28,6 @@ pub mod Shown
 pub mod SidesKept
 pub mod Staying
 pub mod Steps
+pub mod Subject
 pub mod Unbroken
 pub mod Views

@@ -1,33 +1,7 @@
 -- Requests for one trade: a capture, an inclusion, a removal, a confirmation; and a closing.
-use mathlib.Core.Bool.{Bool, true, false, cond, _&&_}
-use mathlib.Core.List.{List, [], map}
-use mathlib.Core.Logic.{⊎-elim}
-use mathlib.Core.Path.{_≡_, refl, sym, ap, subst, subst₂, _∙_}
-use Prim.Native.Nat.{ℕ, _+_}
-use lib.Dec.{eqb}
-use Rattle.std.proofs.shelf.Tests.{cases-eq, eqb-true, ne-eqb, eq-eqb, and-parts, true≢false}
-use Rattle.std.specs.declared.option.Option.{Option}
-use Rattle.std.specs.declared.option.Option.the-variants.{Some, None}
-use Rattle.fields.specs.declared.answer.Answer.{Answer}
-use Rattle.fields.specs.declared.trade.Side.{Side}
-use Rattle.fields.specs.declared.trade.Side.the-variants.{Buyer, Seller}
-use Rattle.fields.specs.declared.trade.Terms.{Terms}
-use Rattle.keyed.specs.Lists.{or-else}
-use Rattle.keyed.specs.Members.{Each}
-use Rattle.keyed.specs.Rows.{find, entered}
-use Rattle.register.specs.Meaning.{Listed}
-use Rattle.requests.specs.declared.request.Closing.{Closing}
-use Rattle.requests.specs.declared.request.Inclusion.{Inclusion}
-use Rattle.requests.specs.declared.request.NewTrade.{NewTrade}
-use Rattle.requests.specs.declared.request.Request.{Request}
-use Rattle.requests.specs.declared.request.Request.the-variants.{Capture, Include, Remove, Confirm, Close}
-use Rattle.requests.specs.declared.request.SideCall.{SideCall}
-use Rattle.rows.specs.Allocations.{held, is-empty, filled, emptied, confirmed, confirmed-if, total}
-use Rattle.rows.specs.Trades.{number, allocation, no-trade, captured}
-use Rattle.rows.specs.declared.row.Allocation.{Allocation}
-use Rattle.rows.specs.declared.row.AllocationState.the-variants.{Empty, Confirmed}
-use Rattle.rows.specs.declared.row.KeptEntry.{KeptEntry}
-use Rattle.rows.specs.declared.row.Trade.{Trade}
+use Rattle.chains.proofs.Words.{Bool, true, false, cond, _&&_, List, [], map, ⊎-elim, _≡_, refl, sym, ap, subst, subst₂, _∙_, ℕ, _+_, eqb, cases-eq, eqb-true, ne-eqb, eq-eqb, and-parts, Option, Some, None}
+use Rattle.law.proofs.Subject.{Answer, Side, Buyer, Seller, Terms, or-else, Each, find, entered, Listed, Closing, Inclusion, NewTrade, Request, Capture, Include, Remove, Confirm, Close, SideCall, held, is-empty, filled, emptied, confirmed, confirmed-if, total, number, allocation, no-trade, captured, Allocation, Empty, Confirmed, KeptEntry, Trade}
+use Rattle.std.proofs.shelf.Tests.{true≢false}
 use Rattle.chains.proofs.Found.{none-by}
 use Rattle.chains.proofs.Keys.{some-of, none-some, row-entered, each-entered, length-entered, map-entered}
 use Rattle.book.specs.Effects.{placed}

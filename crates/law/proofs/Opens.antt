@@ -1,11 +1,6 @@
 -- What is not numbered, in a sound book seen by numbers.
-use mathlib.Core.Bool.{true, false, _&&_}
-use mathlib.Core.Logic.{⊎-elim}
-use mathlib.Core.Path.{_≡_, refl, sym, ap, _∙_}
-use Prim.Native.Nat.{ℕ}
-use Rattle.std.proofs.shelf.Tests.{cases-eq, cases-bool, both-ways}
-use Rattle.fields.specs.declared.trade.Side.{Side}
-use Rattle.fields.specs.declared.trade.Side.the-variants.{Buyer, Seller}
+use Rattle.chains.proofs.Words.{true, false, _&&_, ⊎-elim, _≡_, refl, sym, ap, _∙_, ℕ, cases-eq, cases-bool, both-ways}
+use Rattle.law.proofs.Subject.{Side, Buyer, Seller}
 use Rattle.chains.proofs.Walk.{Not0}
 use Rattle.chains.proofs.Walks.{put-cases, put-off}
 use Rattle.law.proofs.Bridge.{as-bought, as-sold}

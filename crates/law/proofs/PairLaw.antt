@@ -1,18 +1,7 @@
 -- What is said of pairs, kept by an event: it is enough to know which chains are whole and confirmed before and after. Assumes nothing.
-use mathlib.Core.Bool.{true, false, true≢false, false≢true}
-use mathlib.Core.List.{List, [], _∷_, _++_}
-use mathlib.Core.Logic.{_⊎_, inl, inr}
-use mathlib.Core.Path.{_≡_, refl, sym, ap, subst, _∙_}
-use Prim.Native.Nat.{ℕ, _<_}
-use lib.Dec.{eqb}
-use Rattle.std.proofs.shelf.Tests.{cases-bool, and-parts, and-from, eqb-true, eq-eqb}
-use Rattle.fields.specs.declared.trade.Pair.{Pair}
-use Rattle.fields.specs.declared.trade.Side.the-variants.{Buyer}
-use Rattle.keyed.specs.Lists.{those, is-some}
-use Rattle.keyed.specs.Members.{Each, In}
-use Rattle.keyed.specs.Rows.{find}
-use Rattle.rows.specs.Allocations.{entries-held}
-use Rattle.rows.specs.Trades.{both-confirmed, number}
+use Rattle.chains.proofs.Words.{true, false, true≢false, List, [], _∷_, _++_, _⊎_, inl, inr, _≡_, refl, sym, ap, subst, _∙_, ℕ, _<_, eqb, cases-bool, and-parts, and-from, eqb-true, eq-eqb}
+use Rattle.law.proofs.Subject.{Pair, Buyer, those, is-some, Each, In, find, entries-held, both-confirmed, number}
+use mathlib.Core.Bool.{false≢true}
 use Rattle.chains.proofs.Lists.{each-map, each-append, each-in, from-in, those-none, none-those}
 use Rattle.chains.specs.Paired.{Paired}
 use Rattle.book.specs.Runs.{History, Beginning}

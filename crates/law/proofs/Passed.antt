@@ -1,41 +1,13 @@
 -- What is known of a request that was accepted: the tests that the law rests on, by name.
-use mathlib.Core.Bool.{Bool, cond, false, not, true, _||_}
-use mathlib.Core.List.{List, [], map, _∷_}
-use mathlib.Core.Path.{ap, refl, subst, sym, _≡_}
-use Prim.Native.Nat.{ℕ, _+_, _≤_}
-use native.Mathlib.Omega.{arith}
-use lib.Dec.{eqb}
-use lib.ListN.{length}
-use Rattle.std.proofs.shelf.Tests.{and-parts, eqb-true, ne-eqb, not-true, leb-true, false≢true}
-use Rattle.std.specs.declared.option.Option.{Option}
-use Rattle.std.specs.declared.option.Option.the-variants.{None, Some}
-use Rattle.fields.specs.Ranges.{in-range, numbers, quantities, minutes, participants, numbers-or-none}
+use Rattle.chains.proofs.Words.{Bool, cond, false, not, true, _||_, List, [], map, _∷_, ap, refl, subst, sym, _≡_, ℕ, _+_, _≤_, arith, eqb, length, and-parts, eqb-true, ne-eqb, not-true, false≢true, Option, None, Some}
+use Rattle.law.proofs.Subject.{in-range, numbers, quantities, participants, numbers-or-none, Refusal, Entry, Intermediation, Side, Buyer, Seller, Terms, all, any, is-some, Each, Table, find, rises-above, Listed, account-in, tied-in, Inclusion, IntermediationCall, NewIntermediation, NewTrade, Request, Cancel, Capture, Close, Confirm, ConfirmIntermediation, ExcludeIntermediation, Include, Intermediate, Remove, SideCall, active, suits, is-confirmed, is-empty, total, good-intermediation, good-trade, any-leg, both-legs, each-leg, has-leg, id, leg, alike, allocation, is-cancelled, number, numbered-in, party, trade-in, AllocationState, Trade}
+use Rattle.std.proofs.shelf.Tests.{leb-true}
+use Rattle.fields.specs.Ranges.{minutes}
 use Rattle.fields.specs.declared.account.Party.{Party}
-use Rattle.fields.specs.declared.answer.Refusal.{Refusal}
 use Rattle.fields.specs.declared.range.Range.{Range}
-use Rattle.fields.specs.declared.trade.Entry.{Entry}
-use Rattle.fields.specs.declared.trade.Intermediation.{Intermediation}
-use Rattle.fields.specs.declared.trade.Side.{Side}
-use Rattle.fields.specs.declared.trade.Side.the-variants.{Buyer, Seller}
-use Rattle.fields.specs.declared.trade.Terms.{Terms}
-use Rattle.keyed.specs.Lists.{all, any, is-some}
-use Rattle.keyed.specs.Members.{Each}
-use Rattle.keyed.specs.Rows.{Table, find, rises-above, whole}
-use Rattle.register.specs.Meaning.{Listed, account-in, tied-in}
-use Rattle.requests.specs.declared.request.Inclusion.{Inclusion}
-use Rattle.requests.specs.declared.request.IntermediationCall.{IntermediationCall}
-use Rattle.requests.specs.declared.request.NewIntermediation.{NewIntermediation}
-use Rattle.requests.specs.declared.request.NewTrade.{NewTrade}
-use Rattle.requests.specs.declared.request.Request.{Request}
-use Rattle.requests.specs.declared.request.Request.the-variants.{Cancel, Capture, Close, Confirm, ConfirmIntermediation, ExcludeIntermediation, Include, Intermediate, Remove}
-use Rattle.requests.specs.declared.request.SideCall.{SideCall}
-use Rattle.rows.specs.Accounts.{active, suits}
-use Rattle.rows.specs.Allocations.{is-confirmed, is-empty, total}
-use Rattle.rows.specs.InUse.{good-intermediation, good-trade, stands}
-use Rattle.rows.specs.Legs.{any-leg, both-legs, each-leg, has-leg, id, leg, leg-state}
-use Rattle.rows.specs.Trades.{alike, allocation, is-cancelled, number, numbered-in, party, trade-in}
-use Rattle.rows.specs.declared.row.AllocationState.{AllocationState}
-use Rattle.rows.specs.declared.row.Trade.{Trade}
+use Rattle.keyed.specs.Rows.{whole}
+use Rattle.rows.specs.InUse.{stands}
+use Rattle.rows.specs.Legs.{leg-state}
 use Rattle.chains.proofs.Keys.{none-some, some-of}
 use Rattle.chains.proofs.Matches.{Positive}
 use Rattle.chains.proofs.Walk.{Not0}

@@ -1,24 +1,6 @@
 -- The intermediations that go: those found by the ties are those that name the trade.
-use mathlib.Core.Bool.{Bool, true, false, cond, _&&_, _||_}
-use mathlib.Core.List.{List, [], _∷_}
-use mathlib.Core.Logic.{_⊎_, inl, inr, ⊎-elim}
-use mathlib.Core.Path.{_≡_, refl, sym, ap, ap₂, subst, _∙_}
-use Prim.Native.Nat.{ℕ, _<_}
-use native.Mathlib.Omega.{arith}
-use lib.Dec.{eqb, ltb}
-use Rattle.std.proofs.shelf.Tests.{cases-eq, ne-eqb, eq-eqb, and-parts}
-use Rattle.std.specs.declared.option.Option.{Option}
-use Rattle.std.specs.declared.option.Option.the-variants.{Some, None}
-use Rattle.fields.specs.declared.trade.Intermediation.{Intermediation}
-use Rattle.fields.specs.declared.trade.Side.{Side}
-use Rattle.fields.specs.declared.trade.Side.the-variants.{Buyer, Seller}
-use Rattle.keyed.specs.Lists.{or-else, those, any}
-use Rattle.keyed.specs.Members.{In}
-use Rattle.keyed.specs.Rows.{find, changed, removed, rises-above}
-use Rattle.rows.specs.Legs.{id, leg}
-use Rattle.rows.specs.Trades.{number, allocation, no-trade}
-use Rattle.rows.specs.declared.row.AllocationState.the-variants.{Empty}
-use Rattle.rows.specs.declared.row.Trade.{Trade}
+use Rattle.chains.proofs.Words.{Bool, true, false, cond, _&&_, _||_, List, [], _∷_, _⊎_, inl, inr, ⊎-elim, _≡_, refl, sym, ap, ap₂, subst, _∙_, ℕ, _<_, arith, eqb, ltb, cases-eq, ne-eqb, eq-eqb, and-parts, Option, Some, None}
+use Rattle.law.proofs.Subject.{Intermediation, Side, Buyer, Seller, or-else, those, any, In, find, changed, removed, rises-above, id, leg, number, allocation, no-trade, Empty, Trade}
 use Rattle.chains.proofs.Keys.{some-same, none-some, each-in, each-row, row-found, row-in, below-absent, removed-absent, removed-none, removed-swap, changed-swap}
 use Rattle.book.specs.State.{State, trade}
 use Rattle.law.proofs.Legs.{gone-if}

@@ -1,29 +1,6 @@
 -- An accepted request leaves what is numbered, and numbers nothing before it completes a chain.
-use mathlib.Core.Bool.{Bool, true, false, cond}
-use mathlib.Core.List.{List}
-use mathlib.Core.Logic.{⊎-elim}
-use mathlib.Core.Path.{_≡_, refl, sym, ap, subst, _∙_}
-use Prim.Native.Nat.{ℕ}
-use native.Mathlib.Omega.{arith}
-use lib.Dec.{eqb}
-use Rattle.std.proofs.shelf.Tests.{cond-both, cases-eq, ne-eqb, eq-eqb, both-ways, false≢true}
-use Rattle.std.specs.declared.option.Option.{Option}
-use Rattle.std.specs.declared.option.Option.the-variants.{Some, None}
-use Rattle.fields.specs.declared.trade.Intermediation.{Intermediation}
-use Rattle.fields.specs.declared.trade.Side.{Side}
-use Rattle.fields.specs.declared.trade.Side.the-variants.{Buyer, Seller}
-use Rattle.keyed.specs.Lists.{or-else, is-some}
-use Rattle.keyed.specs.Rows.{find, changed}
-use Rattle.register.specs.Meaning.{Listed}
-use Rattle.requests.specs.declared.request.IntermediationCall.{IntermediationCall}
-use Rattle.requests.specs.declared.request.NewIntermediation.{NewIntermediation}
-use Rattle.requests.specs.declared.request.Request.{Request}
-use Rattle.requests.specs.declared.request.Request.the-variants.{Capture, Cancel, Include, Remove, Confirm, Intermediate, ConfirmIntermediation, ExcludeIntermediation, Close}
-use Rattle.rows.specs.Allocations.{is-confirmed, emptied, confirmed}
-use Rattle.rows.specs.Legs.{id, no-intermediation, any-leg}
-use Rattle.rows.specs.Trades.{number, allocation, is-numbered, no-trade, at-side, captured, both-confirmed}
-use Rattle.rows.specs.declared.row.Allocation.{Allocation}
-use Rattle.rows.specs.declared.row.Trade.{Trade}
+use Rattle.chains.proofs.Words.{Bool, true, false, cond, List, ⊎-elim, _≡_, refl, sym, ap, subst, _∙_, ℕ, arith, eqb, cond-both, cases-eq, ne-eqb, eq-eqb, both-ways, false≢true, Option, Some, None}
+use Rattle.law.proofs.Subject.{Intermediation, Side, Buyer, Seller, or-else, is-some, find, changed, Listed, IntermediationCall, NewIntermediation, Request, Capture, Cancel, Include, Remove, Confirm, Intermediate, ConfirmIntermediation, ExcludeIntermediation, Close, is-confirmed, emptied, confirmed, id, no-intermediation, any-leg, number, allocation, is-numbered, no-trade, at-side, captured, both-confirmed, Allocation, Trade}
 use Rattle.chains.proofs.Found.{none-by, some-not, none-below, row-entered}
 use Rattle.chains.proofs.Walk.{Not0}
 use Rattle.chains.proofs.Walks.{put-cases}

@@ -1,32 +1,9 @@
 -- The entries that a confirming request leaves are positive. Assumes nothing.
-use mathlib.Core.Bool.{Bool, true, false, cond, _&&_, _||_, false≢true}
-use mathlib.Core.List.{List, [], _∷_, map}
-use mathlib.Core.Logic.{inl, inr}
-use mathlib.Core.Path.{_≡_, refl, sym, ap, subst, _∙_}
-use Prim.Native.Nat.{ℕ, _<_}
-use native.Mathlib.Omega.{arith}
-use lib.Dec.{eqb}
-use lib.ListN.{length, take, drop}
-use Rattle.std.proofs.shelf.Lists.{take-at}
-use Rattle.std.proofs.shelf.Tests.{and-parts, or-cases}
-use Rattle.std.specs.declared.option.Option.the-variants.{Some}
-use Rattle.fields.specs.Ranges.{in-range, entry-counts, numbers-or-none, accounts, numbers, quantities}
-use Rattle.fields.specs.declared.trade.Entry.{Entry}
-use Rattle.fields.specs.declared.trade.Side.{Side}
-use Rattle.fields.specs.declared.trade.Side.the-variants.{Buyer, Seller}
-use Rattle.keyed.specs.Lists.{or-else, all}
-use Rattle.keyed.specs.Members.{Each}
-use Rattle.keyed.specs.Rows.{find, changed}
-use Rattle.register.specs.Meaning.{Listed}
-use Rattle.requests.specs.declared.request.Request.{Request}
-use Rattle.requests.specs.declared.request.Request.the-variants.{Capture, Cancel, Include, Remove, Confirm, Intermediate, ConfirmIntermediation, ExcludeIntermediation, Close}
-use Rattle.rows.specs.Allocations.{held, is-empty, confirmed, confirmed-if, filled, entries-held}
-use Rattle.rows.specs.InUse.{good-entry, good-allocation, good-terms, good-trade}
-use Rattle.rows.specs.Legs.{id, leg}
-use Rattle.rows.specs.Trades.{number, allocation, at-side, no-trade}
-use Rattle.rows.specs.declared.row.Allocation.{Allocation}
-use Rattle.rows.specs.declared.row.KeptEntry.{KeptEntry}
-use Rattle.rows.specs.declared.row.Trade.{Trade}
+use Rattle.chains.proofs.Words.{Bool, true, false, cond, _&&_, _||_, List, [], _∷_, map, inl, inr, _≡_, refl, sym, ap, subst, _∙_, ℕ, _<_, arith, eqb, length, take, drop, take-at, and-parts, or-cases, Some}
+use Rattle.law.proofs.Subject.{in-range, numbers-or-none, accounts, numbers, quantities, Entry, Side, Buyer, Seller, or-else, all, Each, find, changed, Listed, Request, Capture, Cancel, Include, Remove, Confirm, Intermediate, ConfirmIntermediation, ExcludeIntermediation, Close, held, is-empty, confirmed, confirmed-if, filled, entries-held, good-trade, id, leg, number, allocation, at-side, no-trade, Allocation, KeptEntry, Trade}
+use mathlib.Core.Bool.{false≢true}
+use Rattle.fields.specs.Ranges.{entry-counts}
+use Rattle.rows.specs.InUse.{good-entry, good-allocation, good-terms}
 use Rattle.chains.proofs.Matches.{Positive}
 use Rattle.book.specs.Effects.{filled-leg, placed}
 use Rattle.book.specs.Entries.{whole-entry, kept-entry, entries-of}

@@ -1,41 +1,8 @@
 -- On which grounds a request is not refused.
-use mathlib.Core.Bool.{Bool, false, true, cond}
-use mathlib.Core.List.{List, [], _∷_}
-use mathlib.Core.Path.{ap, refl, sym, _≡_, _∙_}
-use Prim.Native.Nat.{ℕ, _+_}
-use native.Mathlib.Omega.{arith}
-use lib.Dec.{eqb}
-use Rattle.std.proofs.shelf.Tests.{both-ways, eq-eqb}
+use Rattle.chains.proofs.Words.{Bool, false, true, cond, List, [], _∷_, ap, refl, sym, _≡_, _∙_, ℕ, _+_, arith, eqb, both-ways, eq-eqb, Option, None, Some}
+use Rattle.law.proofs.Subject.{number-of, Refusal, Entry, Intermediation, Kind, Pair, Side, Buyer, Seller, Terms, Table, Listed, Cancellation, Closing, Inclusion, IntermediationCall, NewIntermediation, NewTrade, Request, Cancel, Capture, Close, Confirm, ConfirmIntermediation, ExcludeIntermediation, Include, Intermediate, Remove, SideCall, held, other, has-leg, allocation, AllocationState, KeptEntry, Trade}
 use Rattle.std.proofs.shelf.Ways.{tells}
-use Rattle.std.specs.declared.option.Option.{Option}
-use Rattle.std.specs.declared.option.Option.the-variants.{None, Some}
-use Rattle.fields.specs.Grounds.{number-of}
 use Rattle.fields.specs.declared.account.AccountType.{AccountType}
-use Rattle.fields.specs.declared.answer.Refusal.{Refusal}
-use Rattle.fields.specs.declared.trade.Entry.{Entry}
-use Rattle.fields.specs.declared.trade.Intermediation.{Intermediation}
-use Rattle.fields.specs.declared.trade.Kind.{Kind}
-use Rattle.fields.specs.declared.trade.Pair.{Pair}
-use Rattle.fields.specs.declared.trade.Side.{Side}
-use Rattle.fields.specs.declared.trade.Side.the-variants.{Buyer, Seller}
-use Rattle.fields.specs.declared.trade.Terms.{Terms}
-use Rattle.keyed.specs.Rows.{Table}
-use Rattle.register.specs.Meaning.{Listed}
-use Rattle.requests.specs.declared.request.Cancellation.{Cancellation}
-use Rattle.requests.specs.declared.request.Closing.{Closing}
-use Rattle.requests.specs.declared.request.Inclusion.{Inclusion}
-use Rattle.requests.specs.declared.request.IntermediationCall.{IntermediationCall}
-use Rattle.requests.specs.declared.request.NewIntermediation.{NewIntermediation}
-use Rattle.requests.specs.declared.request.NewTrade.{NewTrade}
-use Rattle.requests.specs.declared.request.Request.{Request}
-use Rattle.requests.specs.declared.request.Request.the-variants.{Cancel, Capture, Close, Confirm, ConfirmIntermediation, ExcludeIntermediation, Include, Intermediate, Remove}
-use Rattle.requests.specs.declared.request.SideCall.{SideCall}
-use Rattle.rows.specs.Allocations.{held, other}
-use Rattle.rows.specs.Legs.{has-leg}
-use Rattle.rows.specs.Trades.{allocation}
-use Rattle.rows.specs.declared.row.AllocationState.{AllocationState}
-use Rattle.rows.specs.declared.row.KeptEntry.{KeptEntry}
-use Rattle.rows.specs.declared.row.Trade.{Trade}
 use Rattle.book.specs.Entries.{entries-of, shown}
 use Rattle.book.specs.Fields.{side-fields, capture-fields, call-fields, cancel-fields, closing-fields, entries-fields, entry-fields, fields-verdict, inclusion-fields, intermediation-fields, leg-fields, party-fields}
 use Rattle.book.specs.Numbering.{completed}

@@ -1,20 +1,6 @@
 -- What the rows of a book show by number.
-use mathlib.Core.Bool.{true, false}
-use mathlib.Core.List.{List, map}
-use mathlib.Core.Path.{_≡_, refl, ap, fun-ext, _∙_}
-use Prim.Native.Nat.{ℕ}
-use Rattle.fields.specs.declared.trade.Intermediation.{Intermediation}
-use Rattle.fields.specs.declared.trade.Pair.{Pair}
-use Rattle.fields.specs.declared.trade.Side.{Side}
-use Rattle.fields.specs.declared.trade.Side.the-variants.{Buyer, Seller}
-use Rattle.fields.specs.declared.trade.Terms.{Terms}
-use Rattle.keyed.specs.Lists.{or-else, is-some}
-use Rattle.keyed.specs.Rows.{find, changed}
-use Rattle.rows.specs.Allocations.{other}
-use Rattle.rows.specs.Legs.{id, no-intermediation}
-use Rattle.rows.specs.Trades.{number, allocation, is-cancelled, is-numbered, no-trade}
-use Rattle.rows.specs.declared.row.AllocationState.{AllocationState}
-use Rattle.rows.specs.declared.row.Trade.{Trade}
+use Rattle.chains.proofs.Words.{true, false, List, map, _≡_, refl, ap, fun-ext, _∙_, ℕ}
+use Rattle.law.proofs.Subject.{Intermediation, Pair, Side, Buyer, Seller, Terms, or-else, is-some, find, changed, other, id, no-intermediation, number, allocation, is-cancelled, is-numbered, no-trade, AllocationState, Trade}
 use Rattle.chains.proofs.Found.{put-map, put-same, still-there, look-put}
 use Rattle.chains.proofs.Walk.{put, Not0, Pair as Ends, pair}
 use Rattle.book.specs.Effects.{cancelled}

@@ -1,21 +1,6 @@
 -- Every request keeps the agreement with the plain book and the law of the sides.
-use mathlib.Core.Bool.{true}
-use mathlib.Core.List.{List, _∷_}
-use mathlib.Core.Path.{_≡_, sym}
-use Prim.Native.Nat.{ℕ}
-use native.Mathlib.Omega.{arith}
-use Rattle.std.specs.declared.option.Option.{Option}
-use Rattle.std.specs.declared.option.Option.the-variants.{None}
-use Rattle.std.specs.declared.result.Result.the-variants.{Ok, Err}
-use Rattle.fields.specs.declared.answer.Refusal.{Refusal}
-use Rattle.fields.specs.declared.trade.Pair.{Pair}
-use Rattle.fields.specs.declared.trade.Side.{Side}
-use Rattle.keyed.specs.Rows.{find, rises-above}
-use Rattle.register.specs.Meaning.{Listed}
-use Rattle.requests.specs.declared.request.Request.{Request}
-use Rattle.requests.specs.declared.request.Request.the-variants.{Capture, Cancel, Include, Remove, Confirm, Intermediate, ConfirmIntermediation, ExcludeIntermediation, Close}
-use Rattle.rows.specs.Legs.{id}
-use Rattle.rows.specs.Trades.{number}
+use Rattle.chains.proofs.Words.{true, List, _∷_, _≡_, sym, ℕ, arith, Option, None, Ok, Err}
+use Rattle.law.proofs.Subject.{Refusal, Pair, Side, find, rises-above, Listed, Request, Capture, Cancel, Include, Remove, Confirm, Intermediate, ConfirmIntermediation, ExcludeIntermediation, Close, id, number}
 use Rattle.chains.proofs.Keys.{below-absent}
 use Rattle.book.specs.Effects.{placed}
 use Rattle.book.specs.Numbering.{reply, effect, completed}

@@ -1,14 +1,6 @@
 -- A numbered chain stays as it is until the closing.
-use mathlib.Core.Bool.{false, true}
-use mathlib.Core.List.{List, [], _∷_}
-use mathlib.Core.Logic.{⊎-elim}
-use mathlib.Core.Path.{refl, subst, sym, _≡_, _∙_}
-use Prim.Native.Nat.{ℕ}
-use Rattle.std.proofs.shelf.Tests.{cases-bool}
-use Rattle.std.specs.declared.option.Option.{Option}
-use Rattle.std.specs.declared.option.Option.the-variants.{None, Some}
-use Rattle.fields.specs.declared.answer.Refusal.{Refusal}
-use Rattle.keyed.specs.Members.{Each}
+use Rattle.chains.proofs.Words.{false, true, List, [], _∷_, ⊎-elim, refl, subst, sym, _≡_, _∙_, ℕ, cases-bool, Option, None, Some}
+use Rattle.law.proofs.Subject.{Refusal, Each}
 use Rattle.chains.proofs.Lists.{each-map}
 use Rattle.book.specs.Runs.{Beginning, Call, History, Run, begun, ran, stepped}
 use Rattle.book.specs.State.{State, trade}

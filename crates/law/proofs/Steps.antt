@@ -1,30 +1,6 @@
 -- Every request keeps the pairs lawful.
-use mathlib.Core.Bool.{true, false, _&&_}
-use mathlib.Core.List.{List, [], _∷_, _++_, map}
-use mathlib.Core.Logic.{_⊎_, inl, inr, ⊎-elim}
-use mathlib.Core.Path.{_≡_, refl, sym, ap, ap₂, subst, _∙_}
-use Prim.Native.Nat.{ℕ, _≤_, _<_}
-use native.Mathlib.Omega.{arith}
-use lib.Dec.{eqb}
-use lib.ListN.{length}
-use Rattle.std.proofs.shelf.Tests.{cases-eq, ne-eqb, eq-eqb, both-ways, and-parts, false≢true}
-use Rattle.std.specs.declared.option.Option.the-variants.{Some}
-use Rattle.fields.specs.Ranges.{numbers}
-use Rattle.fields.specs.declared.trade.Entry.{Entry}
-use Rattle.fields.specs.declared.trade.Pair.{Pair}
-use Rattle.fields.specs.declared.trade.Side.{Side}
-use Rattle.fields.specs.declared.trade.Side.the-variants.{Buyer, Seller}
-use Rattle.keyed.specs.Lists.{is-some, those}
-use Rattle.keyed.specs.Members.{Each}
-use Rattle.keyed.specs.Rows.{Table, find}
-use Rattle.register.specs.Meaning.{Listed}
-use Rattle.requests.specs.declared.request.Request.{Request}
-use Rattle.requests.specs.declared.request.Request.the-variants.{Capture, Cancel, Include, Remove, Confirm, Intermediate, ConfirmIntermediation, ExcludeIntermediation, Close}
-use Rattle.rows.specs.Allocations.{is-empty, is-confirmed, total, entries-held}
-use Rattle.rows.specs.Trades.{number, numbered}
-use Rattle.rows.specs.declared.row.AllocationState.{AllocationState}
-use Rattle.rows.specs.declared.row.AllocationState.the-variants.{Empty, Allocated, Confirmed}
-use Rattle.rows.specs.declared.row.Trade.{Trade}
+use Rattle.chains.proofs.Words.{true, false, _&&_, List, [], _∷_, _++_, map, _⊎_, inl, inr, ⊎-elim, _≡_, refl, sym, ap, ap₂, subst, _∙_, ℕ, _≤_, _<_, arith, eqb, length, cases-eq, ne-eqb, eq-eqb, both-ways, and-parts, false≢true, Some}
+use Rattle.law.proofs.Subject.{numbers, Entry, Pair, Side, Buyer, Seller, is-some, those, Each, Table, find, Listed, Request, Capture, Cancel, Include, Remove, Confirm, Intermediate, ConfirmIntermediation, ExcludeIntermediation, Close, is-empty, is-confirmed, total, entries-held, number, numbered, AllocationState, Empty, Allocated, Confirmed, Trade}
 use Rattle.chains.proofs.Found.{some-not}
 use Rattle.chains.proofs.Matches.{all-name}
 use Rattle.chains.proofs.Ties.{first-is}

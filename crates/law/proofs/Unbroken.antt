@@ -1,34 +1,10 @@
 -- In a run from an empty book no chain is broken, and none of up to three trades is too long.
-use mathlib.Core.Bool.{false, not, true, _&&_, _||_}
-use mathlib.Core.List.{List, [], map, _∷_}
-use mathlib.Core.Logic.{⊎-elim, inl, inr}
-use mathlib.Core.Path.{ap, refl, subst, sym, _≡_, _∙_}
-use Prim.Native.Nat.{ℕ, _+_, _≤_}
-use native.Mathlib.Omega.{arith}
-use lib.Dec.{eqb}
-use lib.ListN.{length}
-use Rattle.std.proofs.shelf.Tests.{both-ways, cases-eq, eq-eqb, ne-eqb, and-from, le-leb}
-use Rattle.std.specs.declared.option.Option.{Option}
-use Rattle.std.specs.declared.option.Option.the-variants.{None, Some}
-use Rattle.std.specs.declared.result.Result.the-variants.{Err}
-use Rattle.fields.specs.Grounds.{number-of}
-use Rattle.fields.specs.declared.answer.Refusal.{Refusal}
+use Rattle.chains.proofs.Words.{false, not, true, _&&_, _||_, List, [], map, _∷_, ⊎-elim, inl, inr, ap, refl, subst, sym, _≡_, _∙_, ℕ, _+_, _≤_, arith, eqb, length, both-ways, cases-eq, eq-eqb, ne-eqb, and-from, Option, None, Some, Err}
+use Rattle.law.proofs.Subject.{number-of, Refusal, Intermediation, Side, Buyer, Seller, any, is-some, Each, In, find, Listed, NewIntermediation, Request, Cancel, Capture, Close, Confirm, ConfirmIntermediation, ExcludeIntermediation, Include, Intermediate, Remove, held, any-leg, both-legs, has-leg, id, leg, each-leg, allocation, number, alike, is-cancelled, trade-in, Trade}
+use Rattle.std.proofs.shelf.Tests.{le-leb}
 use Rattle.fields.specs.declared.ground.Ground.{Ground}
-use Rattle.fields.specs.declared.trade.Intermediation.{Intermediation}
-use Rattle.fields.specs.declared.trade.Side.{Side}
-use Rattle.fields.specs.declared.trade.Side.the-variants.{Buyer, Seller}
-use Rattle.keyed.specs.Lists.{any, is-some}
-use Rattle.keyed.specs.Members.{Each, In}
-use Rattle.keyed.specs.Rows.{find}
-use Rattle.register.specs.Meaning.{Listed}
-use Rattle.requests.specs.declared.request.NewIntermediation.{NewIntermediation}
-use Rattle.requests.specs.declared.request.Request.{Request}
-use Rattle.requests.specs.declared.request.Request.the-variants.{Cancel, Capture, Close, Confirm, ConfirmIntermediation, ExcludeIntermediation, Include, Intermediate, Remove}
-use Rattle.rows.specs.Allocations.{held}
 use Rattle.rows.specs.Hours.{in-time}
-use Rattle.rows.specs.Legs.{any-leg, both-legs, has-leg, id, leg, leg-holds, each-leg, legs-hold}
-use Rattle.rows.specs.Trades.{allocation, number, alike, is-cancelled, trade-in}
-use Rattle.rows.specs.declared.row.Trade.{Trade}
+use Rattle.rows.specs.Legs.{leg-holds, legs-hold}
 use Rattle.chains.proofs.Keys.{each-in}
 use Rattle.chains.proofs.Ties.{first-is}
 use Rattle.chains.proofs.Walk.{Not0}

@@ -1,14 +1,6 @@
 -- The book seen by numbers: what stands at each trade and at each intermediation.
-use mathlib.Core.Bool.{Bool, true, false, not, _&&_, cond}
-use mathlib.Core.List.{List, [], _++_}
-use mathlib.Core.Path.{_≡_}
-use Prim.Native.Nat.{ℕ}
-use lib.Dec.{eqb}
-use Rattle.fields.specs.declared.trade.Kind.{Kind}
-use Rattle.fields.specs.declared.trade.Kind.the-variants.{Selic}
-use Rattle.rows.specs.Allocations.{is-confirmed}
-use Rattle.rows.specs.declared.row.AllocationState.{AllocationState}
-use Rattle.rows.specs.declared.row.AllocationState.the-variants.{Empty}
+use Rattle.chains.proofs.Words.{Bool, true, false, not, _&&_, cond, List, [], _++_, _≡_, ℕ, eqb}
+use Rattle.law.proofs.Subject.{Kind, Selic, is-confirmed, AllocationState, Empty}
 use Rattle.chains.proofs.Walk.{put, Not0, far, whole, Pair, joined, Half, Numbered}
 
 abbrev pub sure : AllocationState → Bool
