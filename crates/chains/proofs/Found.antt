@@ -1,5 +1,4 @@
 -- What a changed, an entered and a removed row do to what is found by key.
-use Rattle.chains.proofs.Words.{Bool, true, false, cond, List, [], _∷_, inl, inr, ⊎-elim, _≡_, refl, sym, ap, _∙_, ℕ, suc, _<_, _≤_, arith, eqb, ltb, length, cases-eq, cases-bool, ne-eqb, eq-eqb, ltb-true, ltb-false, and-parts, and-from, false≢true, Option, Some, None}
 use Rattle.std.proofs.shelf.Tests.{lt-ltb}
 use Rattle.keyed.specs.Lists.{or-else, is-some, all}
 use Rattle.keyed.specs.Members.{In, Each}
@@ -7,6 +6,7 @@ use Rattle.keyed.specs.Rows.{find, changed, entered, removed, rises-above}
 use Rattle.chains.proofs.Ties.{put-on}
 use Rattle.chains.proofs.Walk.{put, Not0}
 use Rattle.chains.proofs.Walks.{put-cases, put-off}
+use Rattle.chains.proofs.Words.{Bool, true, false, cond, List, [], _∷_, inl, inr, ⊎-elim, _≡_, refl, sym, ap, _∙_, ℕ, suc, _<_, _≤_, arith, eqb, ltb, length, cases-eq, cases-bool, ne-eqb, eq-eqb, ltb-true, ltb-false, and-parts, and-from, false≢true, Option, Some, None}
 
 pub put-map : {X Y : Type 0} (g : X → Y) (a : ℕ) (x : X) (f : ℕ → X) (n : ℕ) → g (put a x f n) ≡ put a (g x) (λ k. g (f k)) n
 put-map g a x f n = put-cases (λ y. g y ≡ put a (g x) (λ k. g (f k)) n) a x f n
@@ -14,10 +14,6 @@ put-map g a x f n = put-cases (λ y. g y ≡ put a (g x) (λ k. g (f k)) n) a x 
 
 pub put-same : {X : Type 0} (a : ℕ) (x : X) (f : ℕ → X) (n : ℕ) → (Not0 a → x ≡ f a) → put a x f n ≡ f n
 put-same a x f n h = put-cases (λ y. y ≡ f n) a x f n (λ e z. h (λ d. z (e ∙ d)) ∙ ap f (sym e)) (λ _. refl)
-
-pub put-cond : {X : Type 0} (n : ℕ) (x : X) (f : ℕ → X) (m : ℕ) → Not0 n → cond (eqb m n) x (f m) ≡ put n x f m
-put-cond n x f m z = ⊎-elim (λ (e : m ≡ n). rw (eq-eqb _ _ e) (sym (put-on n x f m e (λ y. z (sym e ∙ y)))))
-    (λ (e : m ≡ n → ⊥). rw (ne-eqb _ _ e) (sym (put-off n x f m (λ d. absurd (e d))))) (cases-eq m n)
 
 abbrev pub omap : {X Y : Type 0} → (X → Y) → Option X → Option Y
 omap f None = None

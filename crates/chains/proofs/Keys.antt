@@ -1,8 +1,8 @@
 -- What a changed, an entered and a removed row do to what is found by key.
-use Rattle.chains.proofs.Words.{Bool, true, false, cond, List, [], _∷_, map, _⊎_, inl, inr, ⊎-elim, _≡_, refl, sym, ap, subst, _∙_, ℕ, suc, _+_, _-_, _≤_, _<_, arith, eqb, ltb, length, cases-eq, cases-bool, ne-eqb, eq-eqb, and-parts, ltb-true, false≢true, Option, Some, None}
 use Rattle.keyed.specs.Lists.{or-else, is-some}
 use Rattle.keyed.specs.Members.{Each, In}
 use Rattle.keyed.specs.Rows.{find, changed, removed, entered, rises-above}
+use Rattle.chains.proofs.Words.{Bool, true, false, cond, List, [], _∷_, map, inl, inr, ⊎-elim, _≡_, refl, sym, ap, subst, _∙_, ℕ, suc, _+_, _-_, _≤_, _<_, arith, eqb, ltb, length, cases-eq, cases-bool, ne-eqb, eq-eqb, and-parts, ltb-true, false≢true, Option, Some, None}
 
 abbrev pub mapped : {X Y : Type 0} → (X → Y) → Option X → Option Y
 mapped f None = None
@@ -17,10 +17,6 @@ none-some x e = false≢true (ap is-some e)
 pub some-of : {X : Type 0} (d : X) (o : Option X) → is-some o ≡ true → o ≡ Some (or-else d o)
 some-of d None e = absurd (false≢true e)
 some-of d (Some x) e = refl
-
-pub cases-option : {X : Type 0} (o : Option X) → (o ≡ None) ⊎ ((x : X) × (o ≡ Some x))
-cases-option None = inl refl
-cases-option (Some x) = inr (x, refl)
 
 pub each-in : {X : Type 0} (P : X → Type 0) (x : X) (xs : List X) → Each P xs → In x xs → P x
 each-in P x [] a i = absurd i

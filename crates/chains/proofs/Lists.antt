@@ -1,7 +1,7 @@
 -- Filters, sums and what holds of each, over lists put together. Assumes nothing.
-use Rattle.chains.proofs.Words.{Bool, true, false, cond, List, [], _∷_, _++_, inl, inr, _≡_, refl, ap, _∙_, ℕ, _+_, arith}
 use Rattle.keyed.specs.Lists.{those, sum}
 use Rattle.keyed.specs.Members.{Each, In}
+use Rattle.chains.proofs.Words.{Bool, true, false, cond, List, [], _∷_, _++_, inl, inr, _≡_, refl, ap, _∙_, ℕ, _+_, arith}
 
 -- ── Each ──
 
@@ -12,18 +12,6 @@ each-map P Q f (x ∷ xs) h = (f x (h .0), each-map P Q f xs (h .1))
 pub each-append : {X : Type 0} (P : X → Type 0) (xs ys : List X) → Each P xs → Each P ys → Each P (xs ++ ys)
 each-append P [] ys h k = k
 each-append P (x ∷ xs) ys h k = (h .0, each-append P xs ys (h .1) k)
-
-pub each-left : {X : Type 0} (P : X → Type 0) (xs ys : List X) → Each P (xs ++ ys) → Each P xs
-each-left P [] ys h = tt
-each-left P (x ∷ xs) ys h = (h .0, each-left P xs ys (h .1))
-
-pub each-right : {X : Type 0} (P : X → Type 0) (xs ys : List X) → Each P (xs ++ ys) → Each P ys
-each-right P [] ys h = h
-each-right P (x ∷ xs) ys h = each-right P xs ys (h .1)
-
-pub each-of : {X : Type 0} (P : X → Type 0) → ((x : X) → P x) → (xs : List X) → Each P xs
-each-of P f [] = tt
-each-of P f (x ∷ xs) = (f x, each-of P f xs)
 
 pub each-in : {X : Type 0} (P : X → Type 0) (x : X) (xs : List X) → Each P xs → In x xs → P x
 each-in P x [] h i = absurd i
@@ -67,10 +55,6 @@ those-same p q (x ∷ xs) h =
     ap (λ b. cond b (x ∷ those p xs) (those p xs)) (h .0) ∙ ap (λ l. cond (q x) (x ∷ l) l) (those-same p q xs (h .1))
 
 -- ── sum ──
-
-pub sum-append : {X : Type 0} (f : X → ℕ) (xs ys : List X) → sum f (xs ++ ys) ≡ sum f xs + sum f ys
-sum-append f [] ys = omega arith
-sum-append f (x ∷ xs) ys = let rest = sum-append f xs ys in omega arith
 
 counted : {X : Type 0} (f : X → ℕ) (b : Bool) (x : X) (xs : List X) → sum f (cond b (x ∷ xs) xs) ≡ cond b (f x) 0 + sum f xs
 counted f true x xs = refl

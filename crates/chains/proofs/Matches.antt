@@ -1,5 +1,4 @@
 -- The pairs of two ends: what the entries taken in order come to. Assumes nothing.
-use Rattle.chains.proofs.Words.{Bool, true, false, cond, List, [], _∷_, _++_, map, append-assoc, _⊎_, inl, inr, _≡_, refl, sym, ap, _∙_, ℕ, zero, suc, _+_, _-_, _<_, _≤_, arith, eqb, ltb, length, take, drop, take-append-drop, cond-both, ltb-true, ltb-false}
 use Prim.Native.Nat.{min}
 use Rattle.std.proofs.shelf.Tests.{cases-lt}
 use Rattle.fields.specs.declared.trade.Entry.{Entry}
@@ -8,6 +7,7 @@ use Rattle.keyed.specs.Lists.{those, sum}
 use Rattle.keyed.specs.Members.{Each}
 use Rattle.rows.specs.Allocations.{total}
 use Rattle.chains.proofs.Lists.{sum-those}
+use Rattle.chains.proofs.Words.{Bool, true, false, cond, List, [], _∷_, _++_, map, append-assoc, _⊎_, inl, inr, _≡_, refl, sym, ap, _∙_, ℕ, zero, suc, _+_, _-_, _<_, _≤_, arith, eqb, ltb, length, take, drop, take-append-drop, cond-both, ltb-true, ltb-false}
 use Rattle.chains.specs.Paired.{Taken, Paired}
 use Rattle.chains.specs.Pairing.{less, matched, matches, given-numbers}
 use Rattle.chains.specs.declared.pairing.Match.{Match}
@@ -74,15 +74,6 @@ level-on d b sold bought n h l =
       omega (arith, less-total d sold n (omega arith), less-total b bought n (omega arith), l .2))
 
 -- ── What is taken ──
-
-pub taken-positive : (ps : List Pair) (sold bought : List Entry) → Positive sold → Positive bought → Taken ps sold bought → Each (λ p. 0 < p .quantity) ps
-taken-positive [] sold bought d b t = tt
-taken-positive (p ∷ ps) [] bought d b t = absurd t
-taken-positive (p ∷ ps) (s ∷ sold) [] d b t = absurd t
-taken-positive (p ∷ ps) (s ∷ sold) (e ∷ bought) d b t =
-    (omega (arith, t .2, d .0, b .0),
-      taken-positive ps (less (p .quantity) s sold) (less (p .quantity) e bought)
-      (less-positive s sold (p .quantity) (d .1)) (less-positive e bought (p .quantity) (b .1)) (t .3))
 
 few : (ps : List Pair) (sold bought : List Entry) → Taken ps sold bought → length ps ≤ length sold + length bought - 1
 few [] sold bought t = omega arith
@@ -185,8 +176,3 @@ pairs-paired begun before ns first last sold bought e l d b enough =
       sellers = taken-sellers ps sold bought l t;
       buyers = taken-buyers ps sold bought l t;
       fewer = taken-fewer ps sold bought d t }
-
-pub pairs-positive : (first last : ℕ) (sold bought : List Entry) (ns : List ℕ) → Positive sold → Positive bought → length (matches sold bought) ≤ length ns
-    → Each (λ p. 0 < p .quantity) (given-numbers first last (matches sold bought) ns)
-pairs-positive first last sold bought ns d b enough =
-    taken-positive (given-numbers first last (matches sold bought) ns) sold bought d b (pairs-taken first last sold bought ns enough)

@@ -1,23 +1,23 @@
 -- Every accepted request keeps the book sound.
-use Rattle.chains.proofs.Words.{Bool, true, false, not, _&&_, _||_, cond, List, [], _∷_, map, ⊎-elim, _≡_, refl, sym, ap, ap₂, subst, _∙_, ℕ, _+_, _≤_, _<_, arith, eqb, length, cond-both, cases-eq, eqb-true, eqb-false, eq-eqb, both-ways, and-parts, and-from, or-cases, not-true, false≢true, Option, Some, None}
-use Rattle.law.proofs.Subject.{in-range, numbers-or-none, accounts, numbers, participants, Intermediation, Kind, Selic, Deposited, Registered, Side, Buyer, Seller, Terms, or-else, is-some, any, In, Table, find, changed, removed-in, rises-above, Listed, Cancellation, Inclusion, IntermediationCall, NewIntermediation, NewTrade, Request, Capture, Cancel, Include, Remove, Confirm, Intermediate, ConfirmIntermediation, ExcludeIntermediation, Close, SideCall, same-kind, is-confirmed, emptied, confirmed, confirmed-if, filled, entries-held, good-intermediation, has-leg, id, no-intermediation, any-leg, both-legs, number, allocation, at-side, numbered, captured, both-confirmed, alike, numbered-in, Allocation, AllocationState, Empty, Allocated, Confirmed, KeptEntry, Trade}
 use Rattle.rows.specs.Legs.{leg as leg-of}
 use Rattle.chains.proofs.Found.{row-key, none-by, some-by, some-not, rises-changed, rises-entered, rises-removed, none-below, all-in}
 use Rattle.chains.proofs.Walk.{put, Not0, Walk, Half, count}
 use Rattle.chains.proofs.Walks.{put-cases, put-at, member}
+use Rattle.chains.proofs.Words.{Bool, true, false, not, _&&_, _||_, cond, List, [], _∷_, map, ⊎-elim, _≡_, refl, sym, ap, ap₂, subst, _∙_, ℕ, _+_, _≤_, _<_, arith, eqb, length, cond-both, cases-eq, eqb-true, eqb-false, eq-eqb, both-ways, and-parts, and-from, or-cases, not-true, false≢true, Option, Some, None}
 use Rattle.book.specs.Effects.{excluded, cancelled, placed, called-off, marked, excluded-by}
 use Rattle.book.specs.Entries.{whole-entry, kept-entry, entries-of, included, intermediated}
 use Rattle.book.specs.Joining.{numbers-in}
 use Rattle.book.specs.Numbering.{confirms-in, chain-confirmed, completed, chain-matches, issuer, all-numbered, numbering, with-numbers, effect}
-use Rattle.book.specs.State.{State, trade, intermediation, chain-of, with-intermediations, at-trade}
+use Rattle.book.specs.State.{State, trade, intermediation, with-intermediations, at-trade}
 use Rattle.law.proofs.Bridge.{as-bought, as-sold, only-side, side-view, sides-again, joined-view, excluded-view, nothing-excluded, captured-view, marked-view, voided-view}
 use Rattle.law.proofs.Chained.{tie-at, leg-at, length-line, none-line, chain-is, numbers-from}
-use Rattle.law.proofs.Completes.{Confirming, completed-sound, chain-of-is, line-in}
+use Rattle.law.proofs.Completes.{Confirming, completed-sound}
 use Rattle.law.proofs.Confirms.{leg-left, leg-right}
 use Rattle.law.proofs.Kept.{walk, sides-kept, voided-kept, captured-kept, link-kept, exclude-kept, bought-live, sold-live, nothing-sound}
 use Rattle.law.proofs.Opens.{not-num, num-buyer, num-seller, num-next-not, num-prev-not, side-alone, gone-b, gone-s, open-not, self-s, cancel-one}
 use Rattle.law.proofs.Passed.{Captures, Confirms, Confirms-both, Excludes, Free, Includes, Intermediates, Passed, Stands, Tables, leg-is-there}
 use Rattle.law.proofs.Shown.{common, view, None0, both-kept}
+use Rattle.law.proofs.Subject.{in-range, numbers-or-none, accounts, numbers, participants, Intermediation, Kind, Selic, Deposited, Registered, Side, Buyer, Seller, Terms, or-else, is-some, any, In, Table, find, changed, removed-in, rises-above, Listed, Cancellation, Inclusion, IntermediationCall, NewIntermediation, NewTrade, Request, Capture, Cancel, Include, Remove, Confirm, Intermediate, ConfirmIntermediation, ExcludeIntermediation, Close, SideCall, same-kind, is-confirmed, emptied, confirmed, confirmed-if, filled, entries-held, good-intermediation, has-leg, id, no-intermediation, any-leg, both-legs, number, allocation, at-side, numbered, captured, both-confirmed, alike, numbered-in, Allocation, AllocationState, Empty, Allocated, Confirmed, KeptEntry, Trade}
 use Rattle.law.proofs.Views.{View, sure, next, prev, first, sides, link, exclude, leg, live, Sound as Seen}
 
 -- what every request keeps: what the rows show is sound, and the keys rise
@@ -114,12 +114,6 @@ module _ (s : State) (g : Sound s) where
 
   pub walk-in : Walk (next (view s)) (prev (view s))
   walk-in = walk (view s) (g .seen)
-
-  abbrev pub line-at : ℕ → List Trade
-  line-at n = line-in s halves-of there-of walk-in (first (view s) n)
-
-  pub chain-at : (n : ℕ) → is-some (find number n (s .trades .rows)) ≡ true → Not0 n → chain-of s n ≡ line-at n
-  chain-at n h z = chain-of-is s halves-of there-of walk-in n h z
 
   abbrev pub numbers-at : ℕ → List ℕ
   numbers-at n = numbers-from (s .trades .rows) (s .intermediations .rows) halves-of there-of (first (view s) n)
@@ -356,9 +350,6 @@ module _ (s : State) (g : Sound s) where
 
     none-there : find id (q .intermediation .id) (s .intermediations .rows) ≡ None
     none-there = none-by _ (p .absent)
-
-    entered-base : View
-    entered-base = link (q .intermediation .id) (q .intermediation .bought) (q .intermediation .sold) (sides (q .intermediation .bought) (q .intermediation .sold) Allocated (view s))
 
     entered-sound : Seen (link (q .intermediation .id) (q .intermediation .bought) (q .intermediation .sold) (sides (q .intermediation .bought) (q .intermediation .sold) Allocated (view s)))
     entered-sound =

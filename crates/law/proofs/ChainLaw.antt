@@ -1,12 +1,12 @@
 -- A sound book has lawful chains.
-use Rattle.chains.proofs.Words.{true, _&&_, List, [], _∷_, inl, inr, ⊎-elim, _≡_, refl, sym, ap, subst, _∙_, ℕ, _≤_, _<_, arith, eqb, length, cases-eq, eq-eqb, and-from}
-use Rattle.law.proofs.Subject.{Intermediation, Kind, Selic, Deposited, Registered, Side, Buyer, Terms, or-else, is-some, In, Each, find, same-kind, id, leg, no-intermediation, number, allocation, no-trade, alike, Trade}
 use Rattle.chains.proofs.Found.{row-key, none-by, some-by, some-not, in-row, each-by}
 use Rattle.chains.proofs.Walk.{Not0}
+use Rattle.chains.proofs.Words.{true, _&&_, List, [], _∷_, inl, inr, ⊎-elim, _≡_, refl, sym, ap, subst, _∙_, ℕ, _≤_, _<_, arith, eqb, length, cases-eq, eq-eqb, and-from}
 use Rattle.book.specs.State.{State, trade, intermediation}
 use Rattle.law.proofs.Accepts.{Sound, halves-of, there-of}
 use Rattle.law.proofs.Chained.{tie-at, leg-at, leg-some, jo-id}
 use Rattle.law.proofs.Shown.{common, view}
+use Rattle.law.proofs.Subject.{Intermediation, Kind, Selic, Deposited, Registered, Side, Buyer, Terms, or-else, is-some, In, Each, find, same-kind, id, leg, no-intermediation, number, allocation, no-trade, alike, Trade}
 use Rattle.law.proofs.Views.{Common, next}
 use Rattle.law.specs.Law.{None-twice, Link, Holder, Linked, Chains}
 

@@ -1,24 +1,20 @@
 -- The trades of a completed chain are rows, with the terms that the plain book has. Assumes nothing.
-use Rattle.chains.proofs.Words.{Bool, true, false, cond, List, [], _∷_, _++_, map, ⊎-elim, _≡_, refl, sym, ap, subst, _∙_, ℕ, zero, suc, arith, eqb, length, cases-bool, cond-both, eqb-true, Option, Some, None}
-use Rattle.law.proofs.Subject.{Intermediation, Side, Buyer, Seller, or-else, all, is-some, Each, find, changed, Listed, Request, Capture, Cancel, Include, Remove, Confirm, Intermediate, ConfirmIntermediation, ExcludeIntermediation, Close, is-selic, other, confirmed, id, leg, number, both-confirmed, at-side, no-trade, Allocation, Trade}
-use lib.Dec.{leb}
 use mathlib.Core.List.{reverse, reverse-append}
+use lib.Dec.{leb}
 use Rattle.chains.proofs.Found.{none-by, some-by}
 use Rattle.chains.proofs.Lists.{each-append, each-map}
+use Rattle.chains.proofs.Words.{Bool, true, false, cond, List, [], _∷_, _++_, map, ⊎-elim, _≡_, refl, sym, ap, subst, _∙_, ℕ, zero, suc, arith, eqb, length, cases-bool, cond-both, eqb-true, Option, Some, None}
 use Rattle.chains.specs.Following.{Beyond, nothing, broken, tied-back, by-intermediation, beyond, onto, way, together, chain, a-trade, by-tie, tie-in, tie-of, onward}
 use Rattle.book.specs.Effects.{placed}
 use Rattle.book.specs.Numbering.{confirms-in, chain-confirmed, completed}
 use Rattle.book.specs.Runs.{History, Beginning}
 use Rattle.book.specs.State.{State, trade, intermediation, chain-in, chain-of}
 use Rattle.law.proofs.Events.{Kind-known}
+use Rattle.law.proofs.Subject.{Intermediation, Side, Buyer, Seller, or-else, all, is-some, Each, find, changed, Listed, Request, Capture, Cancel, Include, Remove, Confirm, Intermediate, ConfirmIntermediation, ExcludeIntermediation, Close, is-selic, other, confirmed, id, leg, number, both-confirmed, at-side, no-trade, Allocation, Trade}
 use Rattle.law.specs.Law.{Agrees, as-plain}
-use Rattle.law.specs.Plain.{PlainTrade, Plain, plain, plain-number, terms-of, terms-in}
+use Rattle.law.specs.Plain.{Plain, plain, plain-number, terms-of, terms-in}
 
 -- ── The plain book's terms ──
-
-some-told : Option Trade → Option PlainTrade
-some-told None = None
-some-told (Some t) = Some (as-plain t)
 
 row-plain : (n : ℕ) (ts : List Trade) → terms-of (find plain-number n (map as-plain ts)) ≡ or-else no-trade (find number n ts) .terms
 row-plain n [] = refl

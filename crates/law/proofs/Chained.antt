@@ -1,13 +1,13 @@
 -- In a sound book the chain that is followed is the walk.
-use Rattle.chains.proofs.Words.{Bool, true, false, _&&_, _||_, cond, List, [], _∷_, map, ⊎-elim, _≡_, refl, sym, ap, ap₂, _∙_, ℕ, suc, eqb, length, cases-eq, cases-bool, ne-eqb, eq-eqb, Some}
-use Rattle.law.proofs.Subject.{Intermediation, Side, Buyer, Seller, or-else, is-some, all, any, find, other, id, leg, no-intermediation, number, allocation, no-trade, Trade}
 use Rattle.std.proofs.shelf.Tests.{or-parts}
 use Rattle.chains.proofs.Found.{row-key, some-by, none-by}
 use Rattle.chains.proofs.Ties.{first-is}
 use Rattle.chains.proofs.Walk.{Not0, one, far, Walk, Half, count-from, whole-from}
 use Rattle.chains.proofs.Walks.{far-is, one-stays, one-goes, turned}
+use Rattle.chains.proofs.Words.{Bool, true, false, _&&_, _||_, cond, List, [], _∷_, map, ⊎-elim, _≡_, refl, sym, ap, ap₂, _∙_, ℕ, suc, eqb, length, cases-eq, cases-bool, ne-eqb, eq-eqb, Some}
 use Rattle.chains.specs.Following.{Beyond, beyond, by-intermediation, tied-back, onto, way, together, chain, last-of, a-trade, nothing, broken, by-tie, tie-in, tie-of, onward}
 use Rattle.law.proofs.Shown.{tr, jo}
+use Rattle.law.proofs.Subject.{Intermediation, Side, Buyer, Seller, or-else, is-some, all, any, find, other, id, leg, no-intermediation, number, allocation, no-trade, Trade}
 
 abbrev pub tie-at : List Trade → Side → ℕ → ℕ
 tie-at ts w n = allocation w (tr ts n) .tie

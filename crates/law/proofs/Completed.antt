@@ -1,9 +1,8 @@
 -- The pairs of a completed chain are as the law asks. Assumes nothing.
-use Rattle.chains.proofs.Words.{Bool, true, false, cond, _&&_, List, [], _∷_, _++_, map, _≡_, refl, sym, ap, subst, _∙_, ℕ, _<_, _≤_, arith, eqb, length, and-parts, eqb-true, Option, Some, None}
-use Rattle.law.proofs.Subject.{Entry, Side, Buyer, Seller, Terms, or-else, Each, Table, find, changed-in, same-kind, is-empty, is-confirmed, total, entries-held, number, allocation, both-confirmed, alike, numbered, no-trade, AllocationState, Empty, Allocated, Confirmed, Trade}
 use mathlib.Core.Bool.{false≢true}
 use Rattle.chains.proofs.Lists.{each-map}
 use Rattle.chains.proofs.Matches.{Level, pairs-paired}
+use Rattle.chains.proofs.Words.{Bool, true, false, cond, _&&_, List, [], _∷_, _++_, map, _≡_, refl, sym, ap, subst, _∙_, ℕ, _<_, _≤_, arith, eqb, length, and-parts, eqb-true, Option, Some, None}
 use Rattle.chains.specs.Following.{last-of}
 use Rattle.chains.specs.Paired.{Paired}
 use Rattle.book.specs.Numbering.{all-numbered, numbering, chain-matches, by-selic, issuer, new-pairs}
@@ -14,6 +13,7 @@ use Rattle.law.proofs.Events.{Unnumbered}
 use Rattle.law.proofs.Histories.{Issued, begun-before}
 use Rattle.law.proofs.PairLaw.{Full}
 use Rattle.law.proofs.Quantities.{Sound-trade, each-changed}
+use Rattle.law.proofs.Subject.{Entry, Side, Buyer, Seller, Terms, or-else, Each, Table, find, changed-in, same-kind, is-empty, is-confirmed, total, entries-held, number, allocation, both-confirmed, alike, numbered, no-trade, AllocationState, Empty, Allocated, Confirmed, Trade, all}
 use Rattle.law.specs.Law.{Sides, Linked, Chains, final, begun-for}
 use Rattle.law.specs.Plain.{given}
 

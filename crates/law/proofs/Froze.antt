@@ -1,14 +1,14 @@
 -- What is numbered stays as it is.
-use Rattle.chains.proofs.Words.{Bool, true, false, cond, List, [], _∷_, ⊎-elim, _≡_, refl, sym, ap, ap₂, subst, _∙_, ℕ, eqb, cases-eq, ne-eqb, eq-eqb, both-ways, Option, Some, None}
-use Rattle.law.proofs.Subject.{Intermediation, Side, Buyer, Seller, or-else, Each, find, changed, entered, removed, entries-held, id, leg, no-intermediation, number, allocation, is-numbered, no-trade, Trade}
 use Rattle.chains.proofs.Found.{omap, row-changed, row-entered, row-removed}
 use Rattle.chains.proofs.Walk.{Not0}
+use Rattle.chains.proofs.Words.{Bool, true, false, cond, List, [], _∷_, ⊎-elim, _≡_, refl, sym, ap, ap₂, subst, _∙_, ℕ, eqb, cases-eq, ne-eqb, eq-eqb, both-ways, Option, Some, None}
 use Rattle.book.specs.State.{State, trade, intermediation}
 use Rattle.law.proofs.Accepts.{Sound, walk-in, halves-of}
 use Rattle.law.proofs.Completed.{final-each}
 use Rattle.law.proofs.Fulls.{behind, each-behind, num-full, full-num, others-are, num-not0}
 use Rattle.law.proofs.PairLaw.{Full, Still-full}
 use Rattle.law.proofs.Shown.{tr, jo, view}
+use Rattle.law.proofs.Subject.{Intermediation, Side, Buyer, Seller, or-else, Each, find, changed, entered, removed, entries-held, id, leg, no-intermediation, number, allocation, is-numbered, no-trade, Trade}
 use Rattle.law.proofs.Views.{next, prev, first}
 use Rattle.law.specs.Law.{final}
 

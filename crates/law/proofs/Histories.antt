@@ -1,14 +1,14 @@
 -- One more event: the pairs written, the rows named, the numbers given. Assumes nothing.
-use Rattle.chains.proofs.Words.{Bool, true, false, cond, _&&_, List, [], _∷_, _++_, map, append-assoc, inl, inr, _≡_, refl, sym, ap, subst, _∙_, ℕ, _+_, _-_, arith, eqb, length, take, drop, take-append-drop, and-from, cases-bool, cond-both, eqb-true, eqb-false, eq-eqb, ne-eqb, Ok, Err}
-use Rattle.law.proofs.Subject.{Answer, Written, Marked, Refusal, Pair, those, Each, is-selic}
-use Rattle.std.proofs.shelf.Lists.{take-all, drop-at}
-use Rattle.std.proofs.shelf.Tests.{and-left, and-right}
 use mathlib.Core.Bool.{Bool·beq}
 use mathlib.Core.List.{append-nil}
-use Rattle.chains.proofs.Lists.{each-map, each-append, those-append, those-all, those-none}
+use Rattle.std.proofs.shelf.Lists.{take-all, drop-at}
+use Rattle.std.proofs.shelf.Tests.{and-left, and-right}
+use Rattle.chains.proofs.Lists.{each-map, those-append, those-all, those-none}
+use Rattle.chains.proofs.Words.{Bool, true, false, cond, _&&_, List, [], _∷_, _++_, map, append-assoc, inl, inr, _≡_, refl, sym, ap, subst, _∙_, ℕ, _+_, _-_, arith, eqb, length, take, drop, take-append-drop, and-from, cases-bool, cond-both, eqb-true, eqb-false, eq-eqb, Ok, Err}
 use Rattle.book.specs.Numbering.{written}
 use Rattle.book.specs.Runs.{Event, History, Beginning, Call, event, rows-named}
 use Rattle.book.specs.State.{State}
+use Rattle.law.proofs.Subject.{Answer, Written, Marked, Refusal, Pair, those, Each, is-selic}
 use Rattle.law.specs.Law.{Named, All-named, Pairs}
 use Rattle.law.specs.Plain.{plain, terms-in, given, closes, written-since}
 
@@ -41,11 +41,6 @@ naming-others f l first last ps differ h =
           | inr t ↦ and-left (eqb (p .first) f) (eqb (p .last) l) t
         ]
 
-pub naming-none : (first last : ℕ) (ps : List Pair) → Each (λ p. p .first ≡ first → ⊥) ps → those (naming first last) ps ≡ []
-naming-none first last ps h =
-    those-none (naming first last) ps (each-map (λ p. p .first ≡ first → ⊥) (λ p. naming first last p ≡ false)
-    (λ p differ. and-left (eqb (p .first) first) (eqb (p .last) last) (ne-eqb (p .first) first differ)) ps h)
-
 -- new pairs behind the old: all that name these two are the new ones, if none did before
 pub pairs-new : (first last : ℕ) (old new : List Pair) → those (naming first last) old ≡ [] → All-name first last new → those (naming first last) (old ++ new) ≡ new
 pairs-new first last old new none h =
@@ -55,18 +50,6 @@ pub pairs-kept : (f l first last : ℕ) (old new : List Pair) → ((first ≡ f)
     → those (naming f l) (old ++ new) ≡ those (naming f l) old
 pairs-kept f l first last old new differ h =
     those-append (naming f l) old new ∙ ap (λ k. those (naming f l) old ++ k) (naming-others f l first last new differ h) ∙ append-nil (those (naming f l) old)
-
--- what holds of each pair by its two trades
-pub of-trades : (P : ℕ → ℕ → Type 0) (first last : ℕ) (new : List Pair) → All-name first last new → P first last → Each (λ p. P (p .first) (p .last)) new
-of-trades P first last new h x =
-    each-map (λ p. (p .first ≡ first) × (p .last ≡ last)) (λ p. P (p .first) (p .last)) (λ p e. rw (e .0, e .1) x) new h
-
--- as `of-chains` asks: each old pair still, and the new ones
-pub chains-appended : (P Q : ℕ → ℕ → Type 0) (first last : ℕ) (old new : List Pair) → ((f l : ℕ) → P f l → Q f l)
-    → Each (λ p. P (p .first) (p .last)) old → All-name first last new → Q first last → Each (λ p. Q (p .first) (p .last)) (old ++ new)
-chains-appended P Q first last old new keeps olds h x =
-    each-append (λ p. Q (p .first) (p .last)) old new
-    (each-map (λ p. P (p .first) (p .last)) (λ p. Q (p .first) (p .last)) (λ p. keeps (p .first) (p .last)) old olds) (of-trades Q first last new h x)
 
 -- ── The rows that an answer names ──
 

@@ -1,12 +1,11 @@
 -- What is not numbered, in a sound book seen by numbers.
-use Rattle.chains.proofs.Words.{true, false, _&&_, ⊎-elim, _≡_, refl, sym, ap, _∙_, ℕ, cases-eq, cases-bool, both-ways}
-use Rattle.law.proofs.Subject.{Side, Buyer, Seller}
 use Rattle.chains.proofs.Walk.{Not0}
 use Rattle.chains.proofs.Walks.{put-cases, put-off}
+use Rattle.chains.proofs.Words.{true, false, _&&_, ⊎-elim, _≡_, refl, sym, ap, _∙_, ℕ, cases-eq, cases-bool, both-ways}
 use Rattle.law.proofs.Bridge.{as-bought, as-sold}
-use Rattle.law.proofs.Confirms.{leg-left, leg-right}
 use Rattle.law.proofs.Kept.{walk, full-parts, exclude-kept}
-use Rattle.law.proofs.Views.{View, sure, next, prev, exclude, leg, Sound}
+use Rattle.law.proofs.Subject.{Side, Buyer, Seller}
+use Rattle.law.proofs.Views.{View, sure, next, prev, exclude, Sound}
 
 module _ (v : View) (s : Sound v) where
   pub not-num : (k : ℕ) → (Not0 k → v .num k ≡ true → ⊥) → v .num k ≡ false
@@ -32,16 +31,9 @@ module _ (v : View) (s : Sound v) where
       let k-is : Not0 k = λ y. z (ap (prev v) y ∙ walk v s .prev-none) in
       both-ways _ h (ap (v .num) (sym b) ∙ s .numbers .num-next (prev v k) e (λ y. k-is (sym b ∙ y))))
 
-  pub side-leg : (n : ℕ) (w : Side) → Not0 n → Not0 (leg (as-bought n w) (as-sold n w))
-  side-leg n Buyer z = λ e. z (sym (leg-left n 0 z) ∙ e)
-  side-leg n Seller z = z
-
   pub side-alone : (n : ℕ) (w : Side) (f : ℕ → ℕ) → Not0 (as-bought n w) → Not0 (as-sold n w) → f (as-bought n w) ≡ as-sold n w
   side-alone n Buyer f a c = absurd (c refl)
   side-alone n Seller f a c = absurd (a refl)
-
-  pub leg-zero : (a c : ℕ) → leg a c ≡ 0 → (a ≡ 0) × (c ≡ 0)
-  leg-zero a c e = ⊎-elim (λ (z : a ≡ 0). (z, sym (leg-right a c z) ∙ e)) (λ (z : Not0 a). absurd (z (sym (leg-left a c z) ∙ e))) (cases-eq a 0)
 
   -- after both exclusions the trade is untied
   pub gone-b : (n : ℕ) → exclude (v .sells n) (exclude (v .buys n) v) .buys n ≡ 0

@@ -1,16 +1,16 @@
 -- The entries that a confirming request leaves are positive. Assumes nothing.
-use Rattle.chains.proofs.Words.{Bool, true, false, cond, _&&_, _||_, List, [], _∷_, map, inl, inr, _≡_, refl, sym, ap, subst, _∙_, ℕ, _<_, arith, eqb, length, take, drop, take-at, and-parts, or-cases, Some}
-use Rattle.law.proofs.Subject.{in-range, numbers-or-none, accounts, numbers, quantities, Entry, Side, Buyer, Seller, or-else, all, Each, find, changed, Listed, Request, Capture, Cancel, Include, Remove, Confirm, Intermediate, ConfirmIntermediation, ExcludeIntermediation, Close, held, is-empty, confirmed, confirmed-if, filled, entries-held, good-trade, id, leg, number, allocation, at-side, no-trade, Allocation, KeptEntry, Trade}
 use mathlib.Core.Bool.{false≢true}
 use Rattle.fields.specs.Ranges.{entry-counts}
 use Rattle.rows.specs.InUse.{good-entry, good-allocation, good-terms}
 use Rattle.chains.proofs.Matches.{Positive}
+use Rattle.chains.proofs.Words.{Bool, true, false, cond, _&&_, _||_, List, [], _∷_, map, inl, inr, _≡_, refl, sym, ap, subst, _∙_, ℕ, _<_, arith, eqb, length, take, drop, take-at, and-parts, or-cases, Some}
 use Rattle.book.specs.Effects.{filled-leg, placed}
 use Rattle.book.specs.Entries.{whole-entry, kept-entry, entries-of}
 use Rattle.book.specs.Numbering.{confirms-in}
 use Rattle.book.specs.State.{State, trade, intermediation}
 use Rattle.law.proofs.ChainRows.{found-key, part-changed}
 use Rattle.law.proofs.Passed.{Passed, Tables, at-least, leg-is-there}
+use Rattle.law.proofs.Subject.{in-range, numbers-or-none, accounts, numbers, quantities, Entry, Side, Buyer, Seller, or-else, all, Each, find, changed, Listed, Request, Capture, Cancel, Include, Remove, Confirm, Intermediate, ConfirmIntermediation, ExcludeIntermediation, Close, held, is-empty, confirmed, confirmed-if, filled, entries-held, good-trade, id, leg, number, allocation, at-side, no-trade, Allocation, KeptEntry, Trade}
 
 -- ── A trade with positive entries ──
 

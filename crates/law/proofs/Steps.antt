@@ -1,11 +1,10 @@
 -- Every request keeps the pairs lawful.
-use Rattle.chains.proofs.Words.{true, false, _&&_, List, [], _∷_, _++_, map, _⊎_, inl, inr, ⊎-elim, _≡_, refl, sym, ap, ap₂, subst, _∙_, ℕ, _≤_, _<_, arith, eqb, length, cases-eq, ne-eqb, eq-eqb, both-ways, and-parts, false≢true, Some}
-use Rattle.law.proofs.Subject.{numbers, Entry, Pair, Side, Buyer, Seller, is-some, those, Each, Table, find, Listed, Request, Capture, Cancel, Include, Remove, Confirm, Intermediate, ConfirmIntermediation, ExcludeIntermediation, Close, is-empty, is-confirmed, total, entries-held, number, numbered, AllocationState, Empty, Allocated, Confirmed, Trade}
 use Rattle.chains.proofs.Found.{some-not}
 use Rattle.chains.proofs.Matches.{all-name}
 use Rattle.chains.proofs.Ties.{first-is}
 use Rattle.chains.proofs.Walk.{Not0, far, joined}
 use Rattle.chains.proofs.Walks.{far-stops, far-far, far-not0, member}
+use Rattle.chains.proofs.Words.{true, false, _&&_, List, [], _∷_, _++_, map, _⊎_, inl, inr, ⊎-elim, _≡_, refl, sym, ap, ap₂, subst, _∙_, ℕ, _≤_, _<_, arith, eqb, length, cases-eq, ne-eqb, eq-eqb, both-ways, and-parts, false≢true, Some}
 use Rattle.chains.specs.Following.{last-of}
 use Rattle.book.specs.Numbering.{chain-matches, issuer, new-pairs, all-numbered, numbering, confirms-in, with-numbers}
 use Rattle.book.specs.Runs.{History, Beginning}
@@ -27,6 +26,7 @@ use Rattle.law.proofs.Passed.{Enough, Passed}
 use Rattle.law.proofs.Placed.{Leaves}
 use Rattle.law.proofs.Quantities.{Sound-trade}
 use Rattle.law.proofs.Shown.{tr, ends, view}
+use Rattle.law.proofs.Subject.{numbers, Entry, Pair, Side, Buyer, Seller, is-some, those, Each, Table, find, Listed, Request, Capture, Cancel, Include, Remove, Confirm, Intermediate, ConfirmIntermediation, ExcludeIntermediation, Close, is-empty, is-confirmed, total, entries-held, number, numbered, AllocationState, Empty, Allocated, Confirmed, Trade}
 use Rattle.law.proofs.Views.{View, next, prev, first, whole-chain, numbered as numbered-view}
 use Rattle.law.specs.Law.{Sides, Pairs, final, pairs-of}
 
