@@ -1,9 +1,6 @@
-pub mod Found
-pub mod Keys
-pub mod Lists
 pub mod Matches
 pub mod Numbering
+pub mod Puts
 pub mod Ties
 pub mod Walk
 pub mod Walks
-pub mod Words

@@ -1,7 +1,7 @@
 -- What keeps full and numbered together.
+use Rattle.keyed.proofs.Words.{Bool, true, false, List, [], _∷_, _++_, _⊎_, inl, inr, ⊎-elim, _≡_, refl, sym, ap, subst, _∙_, ℕ, eqb, cases-eq, cases-bool, eqb-true, eqb-false, both-ways}
 use Rattle.chains.proofs.Walk.{Not0, one, far, Walk, whole, Pair, Among, Numbered, joined}
 use Rattle.chains.proofs.Walks.{one-keeps, same-far, far-stops, far-next, far-prev, far-far, far-not0, far-across, whole-parts, whole-made, whole-any}
-use Rattle.chains.proofs.Words.{Bool, true, false, List, [], _∷_, _++_, _⊎_, inl, inr, ⊎-elim, _≡_, refl, sym, ap, subst, _∙_, ℕ, eqb, cases-eq, cases-bool, eqb-true, eqb-false, both-ways}
 
 same-one : (step step′ : ℕ → ℕ) (m : ℕ) → step′ m ≡ step m → one step′ m ≡ one step m
 unfolding one

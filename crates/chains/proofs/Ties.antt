@@ -1,7 +1,7 @@
 -- What a new row and a removed row do to the ties.
+use Rattle.keyed.proofs.Words.{_⊎_, inl, inr, ⊎-elim, _≡_, refl, sym, ap, _∙_, ℕ, _+_, _≤_, arith, cases-eq, ne-eqb}
 use Rattle.chains.proofs.Walk.{put, Not0, one, far, Walk, Half, one-if, count-from, count}
 use Rattle.chains.proofs.Walks.{put-cases, put-at, put-off, one-stays, one-goes, far-is, far-stops, member}
-use Rattle.chains.proofs.Words.{_⊎_, inl, inr, ⊎-elim, _≡_, refl, sym, ap, _∙_, ℕ, _+_, _≤_, arith, cases-eq, ne-eqb}
 
 pub put-on : {X : Type 0} (a : ℕ) (x : X) (f : ℕ → X) (n : ℕ) → n ≡ a → Not0 n → put a x f n ≡ x
 put-on a x f n e z = put-cases (λ y. y ≡ x) a x f n (λ _ _. refl) (λ q. absurd (z (q e)))

@@ -1,5 +1,5 @@
 -- Walks over numbered things, where 0 stands for none.
-use Rattle.chains.proofs.Words.{Bool, true, false, _&&_, cond, List, [], _∷_, _⊎_, _≡_, ℕ, _+_, eqb}
+use Rattle.keyed.proofs.Words.{Bool, true, false, _&&_, cond, List, [], _∷_, _⊎_, _≡_, ℕ, _+_, eqb}
 
 -- f with x at a; nothing is put at 0
 unfoldable pub put : {X : Type 0} → ℕ → X → (ℕ → X) → ℕ → X

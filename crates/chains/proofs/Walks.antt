@@ -1,6 +1,6 @@
 -- What a walk tells.
+use Rattle.keyed.proofs.Words.{Bool, true, false, _&&_, ⊎-elim, _≡_, refl, sym, ap, subst, _∙_, ℕ, eqb, cases-eq, cases-bool, eqb-true, eqb-false, eq-eqb, ne-eqb, and-parts}
 use Rattle.chains.proofs.Walk.{put, Not0, one, far, Walk, whole-from, whole}
-use Rattle.chains.proofs.Words.{Bool, true, false, _&&_, ⊎-elim, _≡_, refl, sym, ap, subst, _∙_, ℕ, eqb, cases-eq, cases-bool, eqb-true, eqb-false, eq-eqb, ne-eqb, and-parts}
 
 -- both cases of a put
 pub put-cases : {X : Type 0} (P : X → Type 0) (a : ℕ) (x : X) (f : ℕ → X) (n : ℕ)

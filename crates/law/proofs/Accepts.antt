@@ -1,9 +1,10 @@
 -- Every accepted request keeps the book sound.
+use Rattle.keyed.proofs.Keys.{rises-changed, rises-entered, rises-removed, below-absent, row-found}
+use Rattle.keyed.proofs.Lists.{none-by, some-of, all-in, none-some}
+use Rattle.keyed.proofs.Words.{Bool, true, false, not, _&&_, _||_, cond, List, [], _∷_, map, ⊎-elim, _≡_, refl, sym, ap, ap₂, subst, _∙_, ℕ, _+_, _≤_, _<_, arith, eqb, length, cond-both, cases-eq, eqb-true, eqb-false, eq-eqb, both-ways, and-parts, and-from, or-cases, not-true, false≢true, Option, Some, None}
 use Rattle.rows.specs.Legs.{leg as leg-of}
-use Rattle.chains.proofs.Found.{row-key, none-by, some-by, some-not, rises-changed, rises-entered, rises-removed, none-below, all-in}
 use Rattle.chains.proofs.Walk.{put, Not0, Walk, Half, count}
 use Rattle.chains.proofs.Walks.{put-cases, put-at, member}
-use Rattle.chains.proofs.Words.{Bool, true, false, not, _&&_, _||_, cond, List, [], _∷_, map, ⊎-elim, _≡_, refl, sym, ap, ap₂, subst, _∙_, ℕ, _+_, _≤_, _<_, arith, eqb, length, cond-both, cases-eq, eqb-true, eqb-false, eq-eqb, both-ways, and-parts, and-from, or-cases, not-true, false≢true, Option, Some, None}
 use Rattle.book.specs.Effects.{excluded, cancelled, placed, called-off, marked, excluded-by}
 use Rattle.book.specs.Entries.{whole-entry, kept-entry, entries-of, included, intermediated}
 use Rattle.book.specs.Joining.{numbers-in}
@@ -222,7 +223,7 @@ module _ (s : State) (g : Sound s) where
   pub legged : (i : ℕ) → Tables s → is-some (find id i (s .intermediations .rows)) ≡ true → Not0 (any-leg (intermediation s i))
   legged i t h =
       let x = intermediation s i in
-      let found : In x (s .intermediations .rows) = row-key id (s .intermediations .rows) i x (some-by no-intermediation (find id i (s .intermediations .rows)) h) .1 in
+      let found : In x (s .intermediations .rows) = row-found id i (s .intermediations .rows) x (some-of no-intermediation (find id i (s .intermediations .rows)) h) .0 in
       let good : good-intermediation x ≡ true = all-in good-intermediation (s .intermediations .rows) x (t .intermediations) found in
       some-leg x (last-and (in-range numbers (x .id)) (in-range participants (x .participant)) (in-range accounts (x .account)) (in-range numbers-or-none (x .bought)) (in-range numbers-or-none (x .sold)) (has-leg Buyer x || has-leg Seller x) good)
 
@@ -267,7 +268,7 @@ module _ (s : State) (g : Sound s) where
           (shown, subst Sound (sym same) g)
       go (Some x) e =
           let found : intermediation s i ≡ x = ap (or-else no-intermediation) e in
-          let i-is : Not0 i = λ z. some-not x (sym e ∙ none-below id (s .intermediations .rows) 0 i (g .intermediation-keys) (let y : i ≡ 0 = z in omega arith)) in
+          let i-is : Not0 i = λ z. none-some x (sym (below-absent id 0 i (s .intermediations .rows) (g .intermediation-keys) (let y : i ≡ 0 = z in omega arith)) ∙ e) in
           let t : State = with-intermediations (removed-in id i) (at-trade (intermediation s i .sold) (at-side Seller emptied) (at-trade (intermediation s i .bought) (at-side Buyer emptied) s)) in
           let same : excluded i s ≡ t = ap (λ o. excluded-by o i s) e ∙ ap (λ y. excluded-by (Some y) i s) (sym found) in
           let shown : view t ≡ exclude i (view s) = excluded-view i (s .trades .rows) (s .intermediations .rows) (s .pairs .rows) (there-of Buyer i) (there-of Seller i) none0 i-is (g .intermediation-keys) in
@@ -471,20 +472,20 @@ module _ (s : State) (g : Sound s) where
 
   -- what a confirming request leaves
   pub confirming : (r : List Listed) (q : Request) → Passed r s q → (n : ℕ) → confirms-in s q ≡ Some n → Confirming (placed r s q) n
-  confirming r (Capture q) p n e = absurd (some-not n (sym e))
-  confirming r (Cancel q) p n e = absurd (some-not n (sym e))
+  confirming r (Capture q) p n e = absurd (none-some n e)
+  confirming r (Cancel q) p n e = absurd (none-some n e)
   confirming r (Include q) p n e = go (q .now) refl e
     where
       go : (b : Bool) → q .now ≡ b → cond b (Some (q .trade)) None ≡ Some n → Confirming (placed r s (Include q)) n
       go true now d = subst (Confirming (placed r s (Include q))) (some-is (q .trade) n d) (include-conf s g r q (p .own) now)
-      go false now d = absurd (some-not n (sym d))
-  confirming r (Remove q) p n e = absurd (some-not n (sym e))
+      go false now d = absurd (none-some n d)
+  confirming r (Remove q) p n e = absurd (none-some n e)
   confirming r (Confirm q) p n e = subst (Confirming (placed r s (Confirm q))) (some-is (q .trade) n e) (confirm-conf s g r q (p .own))
   confirming r (Intermediate q) p n e = go (q .now) refl e
     where
       go : (b : Bool) → q .now ≡ b → cond b (Some (any-leg (q .intermediation))) None ≡ Some n → Confirming (placed r s (Intermediate q)) n
       go true now d = subst (Confirming (placed r s (Intermediate q))) (some-is (any-leg (q .intermediation)) n d) (join-conf s g r q (p .own) now)
-      go false now d = absurd (some-not n (sym d))
+      go false now d = absurd (none-some n d)
   confirming r (ConfirmIntermediation q) p n e = subst (Confirming (placed r s (ConfirmIntermediation q))) (some-is (any-leg (intermediation s (q .id))) n e) (confirm-intermediation-conf s g r q (p .tables) (p .own))
-  confirming r (ExcludeIntermediation q) p n e = absurd (some-not n (sym e))
-  confirming r (Close q) p n e = absurd (some-not n (sym e))
+  confirming r (ExcludeIntermediation q) p n e = absurd (none-some n e)
+  confirming r (Close q) p n e = absurd (none-some n e)

@@ -1,5 +1,5 @@
 use mathlib.Core.Bool.{false≢true}
-use Rattle.chains.proofs.Words.{true, List, [], _∷_, _≡_, refl, ℕ, _≤_, arith, length}
+use Rattle.keyed.proofs.Words.{true, List, [], _∷_, _≡_, refl, ℕ, _≤_, arith, length}
 use Rattle.book.specs.Runs.{Beginning, begun}
 use Rattle.book.specs.State.{trade}
 use Rattle.law.proofs.Subject.{Side, Buyer, Seller, Each, entries-held, allocation, alike}

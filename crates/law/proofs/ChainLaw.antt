@@ -1,7 +1,8 @@
 -- A sound book has lawful chains.
-use Rattle.chains.proofs.Found.{row-key, none-by, some-by, some-not, in-row, each-by}
+use Rattle.keyed.proofs.Keys.{row-found, row-in}
+use Rattle.keyed.proofs.Lists.{none-by, some-of, from-in, none-some}
+use Rattle.keyed.proofs.Words.{true, _&&_, List, [], _∷_, inl, inr, ⊎-elim, _≡_, refl, sym, ap, subst, _∙_, ℕ, _≤_, _<_, arith, eqb, length, cases-eq, eq-eqb, and-from}
 use Rattle.chains.proofs.Walk.{Not0}
-use Rattle.chains.proofs.Words.{true, _&&_, List, [], _∷_, inl, inr, ⊎-elim, _≡_, refl, sym, ap, subst, _∙_, ℕ, _≤_, _<_, arith, eqb, length, cases-eq, eq-eqb, and-from}
 use Rattle.book.specs.State.{State, trade, intermediation}
 use Rattle.law.proofs.Accepts.{Sound, halves-of, there-of}
 use Rattle.law.proofs.Chained.{tie-at, leg-at, leg-some, jo-id}
@@ -32,10 +33,10 @@ common-alike t u e =
 
 module _ (s : State) (g : Sound s) where
   pub intermediation-of : (x : Intermediation) → In x (s .intermediations .rows) → intermediation s (x .id) ≡ x
-  intermediation-of x i = ap (or-else no-intermediation) (in-row id x (s .intermediations .rows) 0 (g .intermediation-keys) i)
+  intermediation-of x i = ap (or-else no-intermediation) (row-in id 0 (s .intermediations .rows) x (g .intermediation-keys) i)
 
   trade-of : (t : Trade) → In t (s .trades .rows) → trade s (number t) ≡ t
-  trade-of t i = ap (or-else no-trade) (in-row number t (s .trades .rows) 0 (g .trade-keys) i)
+  trade-of t i = ap (or-else no-trade) (row-in number 0 (s .trades .rows) t (g .trade-keys) i)
 
   leg-of : (w : Side) (x : Intermediation) → In x (s .intermediations .rows) → leg-at (s .intermediations .rows) w (x .id) ≡ leg w x
   leg-of w x i = ap (leg w) (intermediation-of x i)
@@ -55,7 +56,7 @@ module _ (s : State) (g : Sound s) where
       let i = tie-at (s .trades .rows) w n in
       let own : leg-at (s .intermediations .rows) w i ≡ n = halves-of s g w .back n t in
       let there : is-some (find id i (s .intermediations .rows)) ≡ true = leg-some (s .intermediations .rows) w i (λ y. z (sym own ∙ y)) in
-      record { by = intermediation s i; stands = row-key id (s .intermediations .rows) i (intermediation s i) (some-by no-intermediation (find id i (s .intermediations .rows)) there) .1; has-id = jo-id (s .intermediations .rows) i there; holds = own }
+      record { by = intermediation s i; stands = row-found id i (s .intermediations .rows) (intermediation s i) (some-of no-intermediation (find id i (s .intermediations .rows)) there) .0; has-id = jo-id (s .intermediations .rows) i there; holds = own }
 
   pub link-next : (n m : ℕ) → Link (s .intermediations .rows) n m → next (view s) n ≡ m
   link-next n m l =
@@ -116,10 +117,10 @@ module _ (s : State) (g : Sound s) where
 
   pub chains : Chains s
   chains = record {
-    legs = λ w. each-by _ (s .intermediations .rows) (λ x i h. (stands-at w x i h, tied-to w x i h));
-    ties = λ w. each-by _ (s .trades .rows) (λ t i.
+    legs = λ w. from-in _ (s .intermediations .rows) (λ x i h. (stands-at w x i h, tied-to w x i h));
+    ties = λ w. from-in _ (s .trades .rows) (λ t i.
         let e = trade-of t i in
-        let z : Not0 (number t) = λ y. some-not t (sym (in-row number t (s .trades .rows) 0 (g .trade-keys) i) ∙ ap (λ k. find number k (s .trades .rows)) y ∙ none-by _ (g .seen .none)) in
+        let z : Not0 (number t) = λ y. none-some t (sym (none-by _ (g .seen .none)) ∙ ap (λ k. find number k (s .trades .rows)) (sym y) ∙ row-in number 0 (s .trades .rows) t (g .trade-keys) i) in
         ⊎-elim (λ (d : allocation w t .tie ≡ 0). inl d)
         (λ (d : Not0 (allocation w t .tie)).
         let f : tie-at (s .trades .rows) w (number t) ≡ allocation w t .tie = ap (λ u. allocation w u .tie) e in

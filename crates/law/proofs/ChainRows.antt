@@ -1,9 +1,8 @@
 -- The trades of a completed chain are rows, with the terms that the plain book has. Assumes nothing.
 use mathlib.Core.List.{reverse, reverse-append}
 use lib.Dec.{leb}
-use Rattle.chains.proofs.Found.{none-by, some-by}
-use Rattle.chains.proofs.Lists.{each-append, each-map}
-use Rattle.chains.proofs.Words.{Bool, true, false, cond, List, [], _∷_, _++_, map, ⊎-elim, _≡_, refl, sym, ap, subst, _∙_, ℕ, zero, suc, arith, eqb, length, cases-bool, cond-both, eqb-true, Option, Some, None}
+use Rattle.keyed.proofs.Lists.{none-by, some-of, each-append, each-map}
+use Rattle.keyed.proofs.Words.{Bool, true, false, cond, List, [], _∷_, _++_, map, ⊎-elim, _≡_, refl, sym, ap, subst, _∙_, ℕ, zero, suc, arith, eqb, length, cases-bool, cond-both, eqb-true, Option, Some, None}
 use Rattle.chains.specs.Following.{Beyond, nothing, broken, tied-back, by-intermediation, beyond, onto, way, together, chain, a-trade, by-tie, tie-in, tie-of, onward}
 use Rattle.book.specs.Effects.{placed}
 use Rattle.book.specs.Numbering.{confirms-in, chain-confirmed, completed}
@@ -119,7 +118,7 @@ chain-here ts xs n f = together-here ts (way (tie-in ts) xs Seller 3 n) (way (ti
 
 here-found : (s : State) (ns : List ℕ) → Each (Here (s .trades .rows)) ns → Each (Found (s .trades .rows)) (map (trade s) ns)
 here-found s [] h = tt
-here-found s (n ∷ ns) h = (found-self n (s .trades .rows) (trade s n) (some-by no-trade (find number n (s .trades .rows)) (h .0)), here-found s ns (h .1))
+here-found s (n ∷ ns) h = (found-self n (s .trades .rows) (trade s n) (some-of no-trade (find number n (s .trades .rows)) (h .0)), here-found s ns (h .1))
 
 or-found : (s : State) (o : Option (List ℕ)) → All-here (s .trades .rows) o → Each (Found (s .trades .rows)) (map (trade s) (or-else [] o))
 or-found s None h = tt

@@ -1,10 +1,11 @@
 -- In a sound book the chain that is followed is the walk.
 use Rattle.std.proofs.shelf.Tests.{or-parts}
-use Rattle.chains.proofs.Found.{row-key, some-by, none-by}
+use Rattle.keyed.proofs.Keys.{row-found}
+use Rattle.keyed.proofs.Lists.{some-of, none-by}
+use Rattle.keyed.proofs.Words.{Bool, true, false, _&&_, _||_, cond, List, [], _∷_, map, ⊎-elim, _≡_, refl, sym, ap, ap₂, _∙_, ℕ, suc, eqb, length, cases-eq, cases-bool, ne-eqb, eq-eqb, Some}
 use Rattle.chains.proofs.Ties.{first-is}
 use Rattle.chains.proofs.Walk.{Not0, one, far, Walk, Half, count-from, whole-from}
 use Rattle.chains.proofs.Walks.{far-is, one-stays, one-goes, turned}
-use Rattle.chains.proofs.Words.{Bool, true, false, _&&_, _||_, cond, List, [], _∷_, map, ⊎-elim, _≡_, refl, sym, ap, ap₂, _∙_, ℕ, suc, eqb, length, cases-eq, cases-bool, ne-eqb, eq-eqb, Some}
 use Rattle.chains.specs.Following.{Beyond, beyond, by-intermediation, tied-back, onto, way, together, chain, last-of, a-trade, nothing, broken, by-tie, tie-in, tie-of, onward}
 use Rattle.law.proofs.Shown.{tr, jo}
 use Rattle.law.proofs.Subject.{Intermediation, Side, Buyer, Seller, or-else, is-some, all, any, find, other, id, leg, no-intermediation, number, allocation, no-trade, Trade}
@@ -29,15 +30,15 @@ leg-some xs w i z = ⊎-elim (λ (e : is-some (find id i xs) ≡ true). e)
     none Seller = refl
 
 pub jo-id : (xs : List Intermediation) (i : ℕ) → is-some (find id i xs) ≡ true → jo xs i .id ≡ i
-jo-id xs i h = row-key id xs i (jo xs i) (some-by no-intermediation (find id i xs) h) .0
+jo-id xs i h = row-found id i xs (jo xs i) (some-of no-intermediation (find id i xs) h) .1
 
 pub tr-number : (ts : List Trade) (n : ℕ) → is-some (find number n ts) ≡ true → number (tr ts n) ≡ n
-tr-number ts n h = row-key number ts n (tr ts n) (some-by no-trade (find number n ts) h) .0
+tr-number ts n h = row-found number n ts (tr ts n) (some-of no-trade (find number n ts) h) .1
 
 module _ (ts : List Trade) (xs : List Intermediation) (half : (w : Side) → Half (tie-at ts w) (leg-at xs w))
     (there : (w : Side) (i : ℕ) → Not0 (leg-at xs w i) → is-some (find number (leg-at xs w i) ts) ≡ true) where
   tie-there : (w : Side) (n : ℕ) → is-some (find number n ts) ≡ true → tie-in ts w n ≡ Some (tie-at ts w n)
-  tie-there w n h = ap (tie-of w) (some-by no-trade (find number n ts) h)
+  tie-there w n h = ap (tie-of w) (some-of no-trade (find number n ts) h)
 
   pub beyond-is : (w : Side) (n : ℕ) → is-some (find number n ts) ≡ true → Not0 n
       → beyond (tie-in ts) xs w n ≡ cond (eqb (on ts xs w n) 0) nothing (a-trade (on ts xs w n))
@@ -50,7 +51,7 @@ module _ (ts : List Trade) (xs : List Intermediation) (half : (w : Side) → Hal
       let own : leg-at xs w i ≡ n = half w .back n e in
       let here : is-some (find id i xs) ≡ true = leg-some xs w i (λ y. z (sym own ∙ y)) in
       rw (ne-eqb _ _ e) (
-      ap (by-intermediation (tie-in ts) w n) (some-by no-intermediation (find id i xs) here)
+      ap (by-intermediation (tie-in ts) w n) (some-of no-intermediation (find id i xs) here)
       ∙ ap (λ b. cond b (cond (eqb (on ts xs w n) 0) nothing (tied-back (jo xs i .id) (on ts xs w n) (tie-in ts (other w) (on ts xs w n)))) broken) (eq-eqb _ _ own) ∙
       ⊎-elim (λ (d : on ts xs w n ≡ 0). rw (eq-eqb (on ts xs w n) 0 d) refl)
       (λ (d : Not0 (on ts xs w n)). rw (ne-eqb (on ts xs w n) 0 d) (

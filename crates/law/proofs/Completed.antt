@@ -1,8 +1,8 @@
 -- The pairs of a completed chain are as the law asks. Assumes nothing.
 use mathlib.Core.Bool.{false≢true}
-use Rattle.chains.proofs.Lists.{each-map}
+use Rattle.keyed.proofs.Lists.{each-map}
+use Rattle.keyed.proofs.Words.{Bool, true, false, cond, _&&_, List, [], _∷_, _++_, map, _≡_, refl, sym, ap, subst, _∙_, ℕ, _<_, _≤_, arith, eqb, length, and-parts, eqb-true, Option, Some, None}
 use Rattle.chains.proofs.Matches.{Level, pairs-paired}
-use Rattle.chains.proofs.Words.{Bool, true, false, cond, _&&_, List, [], _∷_, _++_, map, _≡_, refl, sym, ap, subst, _∙_, ℕ, _<_, _≤_, arith, eqb, length, and-parts, eqb-true, Option, Some, None}
 use Rattle.chains.specs.Following.{last-of}
 use Rattle.chains.specs.Paired.{Paired}
 use Rattle.book.specs.Numbering.{all-numbered, numbering, chain-matches, by-selic, issuer, new-pairs}

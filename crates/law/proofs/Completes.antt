@@ -1,9 +1,10 @@
 -- A call that confirms leaves the book sound: a chain that it completes is numbered.
 use mathlib.Core.List.{map-append}
-use Rattle.chains.proofs.Found.{row-past, some-not, none-by}
+use Rattle.keyed.proofs.Keys.{row-past}
+use Rattle.keyed.proofs.Lists.{none-by, none-some}
+use Rattle.keyed.proofs.Words.{true, false, cond, List, [], _∷_, _++_, map, inl, inr, ⊎-elim, _≡_, refl, sym, ap, ap₂, subst, fun-ext, _∙_, ℕ, zero, suc, _+_, _≤_, _<_, arith, length, cases-eq, cases-bool, ne-eqb, eq-eqb, and-parts, not-true, false≢true, Some, None}
 use Rattle.chains.proofs.Walk.{put, Not0, Walk, Half, Among, Pair as Ends, pair}
 use Rattle.chains.proofs.Walks.{put-cases, far-not0, far-keeps, far-far, far-across, whole-parts, whole-any, turned}
-use Rattle.chains.proofs.Words.{true, false, cond, List, [], _∷_, _++_, map, inl, inr, ⊎-elim, _≡_, refl, sym, ap, ap₂, subst, fun-ext, _∙_, ℕ, zero, suc, _+_, _≤_, _<_, arith, length, cases-eq, cases-bool, ne-eqb, eq-eqb, and-parts, not-true, false≢true, Some, None}
 use Rattle.chains.specs.Following.{first-of, last-of}
 use Rattle.chains.specs.Pairing.{matched, matches, given-numbers}
 use Rattle.chains.specs.declared.pairing.Match.{Match}
@@ -20,7 +21,7 @@ use Rattle.law.proofs.Views.{View, sure, next, prev, full, full-by, first, las
 changed-none : (n : ℕ) (f : Trade → Trade) (ts : List Trade) → find number n ts ≡ None → changed number n f ts ≡ ts
 changed-none n f [] h = refl
 changed-none n f (t ∷ ts) h =
-    ⊎-elim (λ (e : number t ≡ n). absurd (some-not t (rw (eq-eqb _ _ e) at h)))
+    ⊎-elim (λ (e : number t ≡ n). absurd (none-some t (sym (rw (eq-eqb _ _ e) at h))))
     (λ (e : number t ≡ n → ⊥). rw (ne-eqb _ _ e) (ap (λ us. t ∷ us) (changed-none n f ts (sym (row-past number t ts n e) ∙ h))))
     (cases-eq (number t) n)
 

@@ -1,7 +1,7 @@
 -- What every request keeps of the pairs that needs no chains: the rows, the answers, the numbers. Assumes nothing.
-use Rattle.chains.proofs.Lists.{each-map}
+use Rattle.keyed.proofs.Lists.{each-map}
+use Rattle.keyed.proofs.Words.{false, cond, true≢false, List, [], _∷_, _++_, _≡_, refl, sym, ap, subst, _∙_, ℕ, _≤_, arith, length, take, drop, cond-both, Option, Some, None, Ok}
 use Rattle.chains.proofs.Matches.{numbers-given, length-given, all-name}
-use Rattle.chains.proofs.Words.{false, cond, true≢false, List, [], _∷_, _++_, _≡_, refl, sym, ap, subst, _∙_, ℕ, _≤_, arith, length, take, drop, cond-both, Option, Some, None, Ok}
 use Rattle.chains.specs.Pairing.{matched}
 use Rattle.book.specs.Effects.{excluded, placed, called-off, excluded-by, marked}
 use Rattle.book.specs.Numbering.{written, reply, completed, effect, numbering, with-numbers, chain-matches, by-selic, issuer, new-pairs}

@@ -1,5 +1,5 @@
 -- Every run is lawful.
-use Rattle.chains.proofs.Words.{true, false, cond, _&&_, List, [], _∷_, _⊎_, inl, inr, ⊎-elim, _≡_, refl, sym, ap, subst, _∙_, ℕ, _≤_, eqb, length, cases-bool, Option, Some, None, Ok}
+use Rattle.keyed.proofs.Words.{true, false, cond, _&&_, List, [], _∷_, _⊎_, inl, inr, ⊎-elim, _≡_, refl, sym, ap, subst, _∙_, ℕ, _≤_, eqb, length, cases-bool, Option, Some, None, Ok}
 use Rattle.book.specs.Effects.{placed}
 use Rattle.book.specs.Numbering.{reply, if-all-confirmed, chain-confirmed, completed, chain-matches, issuer, with-numbers, confirms-in, effect}
 use Rattle.book.specs.Runs.{History, Beginning, Call, event, rows-named, Run, stepped, ran, begun}

@@ -1,7 +1,8 @@
 -- The parts of the law that a request's own changes keep: agreement with the plain book, and the sides.
 use Rattle.std.proofs.shelf.Lists.{length-append}
-use Rattle.chains.proofs.Keys.{mapped, row-map, map-changed, length-changed, seen-put, seen-kept, each-changed, each-row, none-some, row-changed-same, row-changed-other}
-use Rattle.chains.proofs.Words.{Bool, true, false, cond, not, _&&_, List, [], _∷_, map, ⊎-elim, _≡_, refl, sym, ap, subst, _∙_, ℕ, _+_, eqb, length, drop, take-at, cases-eq, cases-bool, eqb-true, false≢true, Option, Some, None, Ok}
+use Rattle.keyed.proofs.Keys.{row-map, map-changed, length-changed, seen-put, seen-kept, each-changed, each-row, row-changed-same, row-changed-other}
+use Rattle.keyed.proofs.Lists.{mapped, none-some}
+use Rattle.keyed.proofs.Words.{Bool, true, false, cond, not, _&&_, List, [], _∷_, map, ⊎-elim, _≡_, refl, sym, ap, subst, _∙_, ℕ, _+_, eqb, length, drop, take-at, cases-eq, cases-bool, eqb-true, false≢true, Option, Some, None, Ok}
 use Rattle.book.specs.Entries.{kept-entry}
 use Rattle.book.specs.Numbering.{all-numbered, numbering, with-numbers, new-pairs}
 use Rattle.book.specs.Runs.{History}

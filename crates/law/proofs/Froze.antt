@@ -1,7 +1,8 @@
 -- What is numbered stays as it is.
-use Rattle.chains.proofs.Found.{omap, row-changed, row-entered, row-removed}
+use Rattle.keyed.proofs.Keys.{row-changed, row-entered, row-removed}
+use Rattle.keyed.proofs.Lists.{mapped}
+use Rattle.keyed.proofs.Words.{Bool, true, false, cond, List, [], _∷_, ⊎-elim, _≡_, refl, sym, ap, ap₂, subst, _∙_, ℕ, eqb, cases-eq, ne-eqb, eq-eqb, both-ways, Option, Some, None}
 use Rattle.chains.proofs.Walk.{Not0}
-use Rattle.chains.proofs.Words.{Bool, true, false, cond, List, [], _∷_, ⊎-elim, _≡_, refl, sym, ap, ap₂, subst, _∙_, ℕ, eqb, cases-eq, ne-eqb, eq-eqb, both-ways, Option, Some, None}
 use Rattle.book.specs.State.{State, trade, intermediation}
 use Rattle.law.proofs.Accepts.{Sound, walk-in, halves-of}
 use Rattle.law.proofs.Completed.{final-each}
@@ -53,17 +54,17 @@ frozen-then s t u f k = record {
 pub changed-froze : (num : ℕ → Bool) (n : ℕ) (f : Trade → Trade) (ts : List Trade) → ((t : Trade) → number (f t) ≡ number t) → num n ≡ false
     → (m : ℕ) → num m ≡ true → Same (tr (changed number n f ts) m) (tr ts m)
 changed-froze num n f ts keeps nn m h =
-    same-path _ _ (ap (or-else no-trade) (row-changed number f keeps n ts m ∙ ap (λ b. cond b (omap f (find number n ts)) (find number m ts)) (ne-eqb m n (λ e. both-ways _ nn (ap num (sym e) ∙ h)))))
+    same-path _ _ (ap (or-else no-trade) (row-changed number f keeps n ts m ∙ ap (λ b. cond b (mapped f (find number n ts)) (find number m ts)) (ne-eqb m n (λ e. both-ways _ nn (ap num (sym e) ∙ h)))))
 
 pub changed-alike : (n : ℕ) (f : Trade → Trade) (ts : List Trade) → ((t : Trade) → Same (f t) t) → (m : ℕ) → Same (tr (changed number n f ts) m) (tr ts m)
 changed-alike n f ts same m =
     same-then _ _ _ (same-path _ _ (ap (or-else no-trade) (row-changed number f (λ t. ap (λ e. e .number) (same t .terms)) n ts m)))
-    (⊎-elim (λ (e : m ≡ n). subst (λ b. Same (or-else no-trade (cond b (omap f (find number n ts)) (find number m ts))) (tr ts m)) (sym (eq-eqb _ _ e))
-    (subst (λ k. Same (or-else no-trade (omap f (find number n ts))) (tr ts k)) (sym e) (go (find number n ts))))
-    (λ (e : m ≡ n → ⊥). subst (λ b. Same (or-else no-trade (cond b (omap f (find number n ts)) (find number m ts))) (tr ts m)) (sym (ne-eqb _ _ e)) (same-self _))
+    (⊎-elim (λ (e : m ≡ n). subst (λ b. Same (or-else no-trade (cond b (mapped f (find number n ts)) (find number m ts))) (tr ts m)) (sym (eq-eqb _ _ e))
+    (subst (λ k. Same (or-else no-trade (mapped f (find number n ts))) (tr ts k)) (sym e) (go (find number n ts))))
+    (λ (e : m ≡ n → ⊥). subst (λ b. Same (or-else no-trade (cond b (mapped f (find number n ts)) (find number m ts))) (tr ts m)) (sym (ne-eqb _ _ e)) (same-self _))
     (cases-eq m n))
   where
-    go : (o : Option Trade) → Same (or-else no-trade (omap f o)) (or-else no-trade o)
+    go : (o : Option Trade) → Same (or-else no-trade (mapped f o)) (or-else no-trade o)
     go None = same-self no-trade
     go (Some t) = same t
 
@@ -71,14 +72,14 @@ changed-alike n f ts same m =
 pub changed-fewer : (n : ℕ) (f : Trade → Trade) (ts : List Trade) → ((t : Trade) → number (f t) ≡ number t) → ((t : Trade) → is-numbered (f t .state) ≡ true → is-numbered (t .state) ≡ true)
     → (m : ℕ) → is-numbered (tr (changed number n f ts) m .state) ≡ true → is-numbered (tr ts m .state) ≡ true
 changed-fewer n f ts keeps less m h =
-    let k : is-numbered (or-else no-trade (cond (eqb m n) (omap f (find number n ts)) (find number m ts)) .state) ≡ true =
+    let k : is-numbered (or-else no-trade (cond (eqb m n) (mapped f (find number n ts)) (find number m ts)) .state) ≡ true =
     ap (λ o. is-numbered (or-else no-trade o .state)) (sym (row-changed number f keeps n ts m)) ∙ h in
     ⊎-elim (λ (e : m ≡ n). subst (λ j. is-numbered (tr ts j .state) ≡ true) (sym e)
-    (go (find number n ts) (subst (λ b. is-numbered (or-else no-trade (cond b (omap f (find number n ts)) (find number m ts)) .state) ≡ true) (eq-eqb _ _ e) k)))
-    (λ (e : m ≡ n → ⊥). subst (λ b. is-numbered (or-else no-trade (cond b (omap f (find number n ts)) (find number m ts)) .state) ≡ true) (ne-eqb _ _ e) k)
+    (go (find number n ts) (subst (λ b. is-numbered (or-else no-trade (cond b (mapped f (find number n ts)) (find number m ts)) .state) ≡ true) (eq-eqb _ _ e) k)))
+    (λ (e : m ≡ n → ⊥). subst (λ b. is-numbered (or-else no-trade (cond b (mapped f (find number n ts)) (find number m ts)) .state) ≡ true) (ne-eqb _ _ e) k)
     (cases-eq m n)
   where
-    go : (o : Option Trade) → is-numbered (or-else no-trade (omap f o) .state) ≡ true → is-numbered (or-else no-trade o .state) ≡ true
+    go : (o : Option Trade) → is-numbered (or-else no-trade (mapped f o) .state) ≡ true → is-numbered (or-else no-trade o .state) ≡ true
     go None x = x
     go (Some t) x = less t x
 

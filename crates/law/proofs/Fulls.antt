@@ -1,8 +1,8 @@
 -- The chains that are whole and confirmed are those that are numbered, and what keeps the numbered trades keeps them.
+use Rattle.keyed.proofs.Words.{true, false, not, _&&_, cond, List, [], _∷_, ⊎-elim, _≡_, refl, sym, ap, subst, _∙_, ℕ, arith, eqb, cases-eq, cases-bool, ne-eqb, eq-eqb, both-ways, and-parts, and-from}
 use Rattle.chains.proofs.Ties.{first-is}
 use Rattle.chains.proofs.Walk.{Not0, Walk, whole-from}
 use Rattle.chains.proofs.Walks.{far-is, one-stays, one-goes, turned, far-stops, whole-made}
-use Rattle.chains.proofs.Words.{true, false, not, _&&_, cond, List, [], _∷_, ⊎-elim, _≡_, refl, sym, ap, subst, _∙_, ℕ, arith, eqb, cases-eq, cases-bool, ne-eqb, eq-eqb, both-ways, and-parts, and-from}
 use Rattle.book.specs.State.{State, trade}
 use Rattle.law.proofs.Accepts.{Sound, walk-in}
 use Rattle.law.proofs.ChainLaw.{chains, link-next, next-link, pos-not0}

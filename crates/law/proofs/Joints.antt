@@ -1,6 +1,7 @@
 -- Requests for an intermediation, and a cancellation.
-use Rattle.chains.proofs.Keys.{some-of, none-some, seen-kept, each-changed, map-changed, length-changed}
-use Rattle.chains.proofs.Words.{Bool, true, false, cond, _&&_, _||_, List, [], _∷_, map, ⊎-elim, _≡_, refl, sym, ap, ap₂, subst, _∙_, ℕ, _<_, zero, arith, eqb, cases-bool, and-parts, and-from, false≢true, Option, Some, None}
+use Rattle.keyed.proofs.Keys.{seen-kept, each-changed, map-changed, length-changed}
+use Rattle.keyed.proofs.Lists.{some-of, none-some}
+use Rattle.keyed.proofs.Words.{Bool, true, false, cond, _&&_, _||_, List, [], _∷_, map, ⊎-elim, _≡_, refl, sym, ap, ap₂, subst, _∙_, ℕ, _<_, zero, arith, eqb, cases-bool, and-parts, and-from, false≢true, Option, Some, None}
 use Rattle.book.specs.Effects.{excluded, cancelled, placed, called-off, marked}
 use Rattle.book.specs.Entries.{whole-entry, kept-entry, shown, no-account, intermediated}
 use Rattle.book.specs.Numbering.{reply}

@@ -1,8 +1,9 @@
 -- One leg, or one row of the intermediations, changed.
 use Rattle.std.proofs.shelf.Tests.{true≢false}
+use Rattle.keyed.proofs.Keys.{row-found, length-entered, length-removed, removed-absent, seen-put, each-changed, map-changed, changed-twice, length-changed}
+use Rattle.keyed.proofs.Lists.{none-some}
+use Rattle.keyed.proofs.Words.{Bool, true, false, cond, not, _&&_, List, [], map, _≡_, refl, sym, ap, subst, subst₂, _∙_, ℕ, _+_, _-_, eqb, eqb-true, ne-eqb, and-parts, false≢true, Option, Some, None}
 use Rattle.keyed.specs.Rows.{entered-in}
-use Rattle.chains.proofs.Keys.{none-some, row-found, length-entered, length-removed, removed-absent, seen-put, each-changed, map-changed, changed-twice, length-changed}
-use Rattle.chains.proofs.Words.{Bool, true, false, cond, not, _&&_, List, [], map, _≡_, refl, sym, ap, subst, subst₂, _∙_, ℕ, _+_, _-_, eqb, eqb-true, ne-eqb, and-parts, false≢true, Option, Some, None}
 use Rattle.book.specs.Effects.{excluded, cancelled, excluded-by}
 use Rattle.book.specs.State.{State, trade, at-trade, with-intermediations}
 use Rattle.law.proofs.Fair.{held-in, Adds, Sided, Fair, plain-number-is, by, there-left, held-kept, held-leg, adds-at, agrees-at, held-confirmed, same-side}

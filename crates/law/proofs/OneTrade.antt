@@ -1,8 +1,8 @@
 -- Requests for one trade: a capture, an inclusion, a removal, a confirmation; and a closing.
 use Rattle.std.proofs.shelf.Tests.{true≢false}
-use Rattle.chains.proofs.Found.{none-by}
-use Rattle.chains.proofs.Keys.{some-of, none-some, row-entered, each-entered, length-entered, map-entered}
-use Rattle.chains.proofs.Words.{Bool, true, false, cond, _&&_, List, [], map, ⊎-elim, _≡_, refl, sym, ap, subst, subst₂, _∙_, ℕ, _+_, eqb, cases-eq, eqb-true, ne-eqb, eq-eqb, and-parts, Option, Some, None}
+use Rattle.keyed.proofs.Keys.{row-entered, each-entered, length-entered, map-entered}
+use Rattle.keyed.proofs.Lists.{none-by, some-of, none-some}
+use Rattle.keyed.proofs.Words.{Bool, true, false, cond, _&&_, List, [], map, ⊎-elim, _≡_, refl, sym, ap, subst, subst₂, _∙_, ℕ, _+_, eqb, cases-eq, eqb-true, ne-eqb, eq-eqb, and-parts, Option, Some, None}
 use Rattle.book.specs.Effects.{placed}
 use Rattle.book.specs.Entries.{kept-entry, entries-of, included}
 use Rattle.book.specs.State.{State, trade}
@@ -36,8 +36,8 @@ absent-holds ts Seller n e = ap (λ o. held (allocation Seller (or-else no-trade
 entered-holds : (ts : List Trade) (t : Terms) → find number (t .number) ts ≡ None → (w : Side) (n : ℕ) → held-in ts w n ≡ held-in (entered number (captured t) ts) w n
 entered-holds ts t e w n =
     ⊎-elim (λ (i : t .number ≡ n). absent-holds ts w n (subst (λ k. find number k ts ≡ None) i e) ∙ captured-holds w t
-      ∙ ap (λ o. held (allocation w (or-else no-trade o))) (sym (row-entered number (captured t) ts n e ∙ ap (λ b. cond b (Some (captured t)) (find number n ts)) (eq-eqb _ _ i))))
-    (λ (i : t .number ≡ n → ⊥). ap (λ o. held (allocation w (or-else no-trade o))) (sym (row-entered number (captured t) ts n e ∙ ap (λ b. cond b (Some (captured t)) (find number n ts)) (ne-eqb _ _ i))))
+      ∙ ap (λ o. held (allocation w (or-else no-trade o))) (sym (row-entered number (captured t) ts n e ∙ ap (λ b. cond b (Some (captured t)) (find number n ts)) (eq-eqb _ _ (sym i)))))
+    (λ (i : t .number ≡ n → ⊥). ap (λ o. held (allocation w (or-else no-trade o))) (sym (row-entered number (captured t) ts n e ∙ ap (λ b. cond b (Some (captured t)) (find number n ts)) (ne-eqb _ _ (λ y. i (sym y))))))
     (cases-eq (t .number) n)
 
 pub filled-state : (now : Bool) (es : List KeptEntry) (tie : ℕ) (d : Allocation) → confirmed-if now (filled es tie d) .state ≡ filled-as now

@@ -1,7 +1,7 @@
 -- What is said of pairs, kept by an event: it is enough to know which chains are whole and confirmed before and after. Assumes nothing.
 use mathlib.Core.Bool.{false≢true}
-use Rattle.chains.proofs.Lists.{each-map, each-append, each-in, from-in, those-none, none-those}
-use Rattle.chains.proofs.Words.{true, false, true≢false, List, [], _∷_, _++_, _⊎_, inl, inr, _≡_, refl, sym, ap, subst, _∙_, ℕ, _<_, eqb, cases-bool, and-parts, and-from, eqb-true, eq-eqb}
+use Rattle.keyed.proofs.Lists.{each-map, each-append, each-in, from-in, those-none, none-those}
+use Rattle.keyed.proofs.Words.{true, false, true≢false, List, [], _∷_, _++_, _⊎_, inl, inr, _≡_, refl, sym, ap, subst, _∙_, ℕ, _<_, eqb, cases-bool, and-parts, and-from, eqb-true, eq-eqb}
 use Rattle.chains.specs.Paired.{Paired}
 use Rattle.book.specs.Runs.{History, Beginning}
 use Rattle.book.specs.State.{State, trade}

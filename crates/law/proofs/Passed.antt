@@ -3,13 +3,13 @@ use Rattle.std.proofs.shelf.Tests.{leb-true}
 use Rattle.fields.specs.Ranges.{minutes}
 use Rattle.fields.specs.declared.account.Party.{Party}
 use Rattle.fields.specs.declared.range.Range.{Range}
+use Rattle.keyed.proofs.Lists.{none-some, some-of}
+use Rattle.keyed.proofs.Words.{Bool, cond, false, not, true, _||_, List, [], map, _∷_, ap, refl, subst, sym, _≡_, ℕ, _+_, _≤_, arith, eqb, length, and-parts, eqb-true, ne-eqb, not-true, false≢true, Option, None, Some}
 use Rattle.keyed.specs.Rows.{whole}
 use Rattle.rows.specs.InUse.{stands}
 use Rattle.rows.specs.Legs.{leg-state}
-use Rattle.chains.proofs.Keys.{none-some, some-of}
 use Rattle.chains.proofs.Matches.{Positive}
 use Rattle.chains.proofs.Walk.{Not0}
-use Rattle.chains.proofs.Words.{Bool, cond, false, not, true, _||_, List, [], map, _∷_, ap, refl, subst, sym, _≡_, ℕ, _+_, _≤_, arith, eqb, length, and-parts, eqb-true, ne-eqb, not-true, false≢true, Option, None, Some}
 use Rattle.chains.specs.Pairing.{matched}
 use Rattle.book.specs.Entries.{calling, entries-of, kept-entry, no-account, shown}
 use Rattle.book.specs.Fields.{capture-fields, entries-fields, entry-fields, fields-verdict, inclusion-fields, intermediation-fields, leg-fields, side-fields}

@@ -1,8 +1,9 @@
 -- An accepted request leaves what is numbered, and numbers nothing before it completes a chain.
-use Rattle.chains.proofs.Found.{none-by, some-not, none-below, row-entered}
+use Rattle.keyed.proofs.Keys.{row-entered, below-absent}
+use Rattle.keyed.proofs.Lists.{none-by, none-some}
+use Rattle.keyed.proofs.Words.{Bool, true, false, cond, List, ⊎-elim, _≡_, refl, sym, ap, subst, _∙_, ℕ, arith, eqb, cond-both, cases-eq, ne-eqb, eq-eqb, both-ways, false≢true, Option, Some, None}
 use Rattle.chains.proofs.Walk.{Not0}
 use Rattle.chains.proofs.Walks.{put-cases}
-use Rattle.chains.proofs.Words.{Bool, true, false, cond, List, ⊎-elim, _≡_, refl, sym, ap, subst, _∙_, ℕ, arith, eqb, cond-both, cases-eq, ne-eqb, eq-eqb, both-ways, false≢true, Option, Some, None}
 use Rattle.book.specs.Effects.{excluded, cancelled, placed, called-off, excluded-by, marked}
 use Rattle.book.specs.Entries.{included, intermediated}
 use Rattle.book.specs.Numbering.{confirms-in}
@@ -44,7 +45,7 @@ excluded-leaves s g i nb ns = go (find id i (s .intermediations .rows)) refl
     go None e = subst (Leaves s) (sym (ap (λ o. excluded-by o i s) e)) (leaves-self s)
     go (Some x) e =
         let found : intermediation s i ≡ x = ap (or-else no-intermediation) e in
-        let i-is : Not0 i = λ z. some-not x (sym e ∙ none-below id (s .intermediations .rows) 0 i (g .intermediation-keys) (let y : i ≡ 0 = z in omega arith)) in
+        let i-is : Not0 i = λ z. none-some x (sym (below-absent id 0 i (s .intermediations .rows) (g .intermediation-keys) (let y : i ≡ 0 = z in omega arith)) ∙ e) in
         let us = changed number (intermediation s i .bought) (at-side Buyer emptied) (s .trades .rows) in
         subst (Leaves s) (sym (ap (λ o. excluded-by o i s) e ∙ ap (λ y. excluded-by (Some y) i s) (sym found))) (record {
           frozen = record {
@@ -164,24 +165,24 @@ module _ (s : State) (g : Sound s) where
 
   -- the trade whose side is confirmed was not numbered
   pub open-before : (r : List Listed) (q : Request) → Passed r s q → (n : ℕ) → confirms-in s q ≡ Some n → view s .num n ≡ false
-  open-before r (Capture q) p n e = absurd (some-not n (sym e))
-  open-before r (Cancel q) p n e = absurd (some-not n (sym e))
+  open-before r (Capture q) p n e = absurd (none-some n e)
+  open-before r (Cancel q) p n e = absurd (none-some n e)
   open-before r (Include q) p n e =
       go (q .now) (open-side s g (q .trade) (q .side) (p .own .free .unsure)) e
     where
       go : (b : Bool) → view s .num (q .trade) ≡ false → cond b (Some (q .trade)) None ≡ Some n → view s .num n ≡ false
       go true o d = ap (view s .num) (sym (some-is (q .trade) n d)) ∙ o
-      go false o d = absurd (some-not n (sym d))
-  open-before r (Remove q) p n e = absurd (some-not n (sym e))
+      go false o d = absurd (none-some n d)
+  open-before r (Remove q) p n e = absurd (none-some n e)
   open-before r (Confirm q) p n e =
       ap (view s .num) (sym (some-is (q .trade) n e)) ∙ open-side s g (q .trade) (q .side) (p .own .free .unsure)
   open-before r (Intermediate q) p n e = go (q .now) (let o = join-open s g r q (p .own) in any-open (q .intermediation) (o .0) (o .1)) e
     where
       go : (b : Bool) → view s .num (any-leg (q .intermediation)) ≡ false → cond b (Some (any-leg (q .intermediation))) None ≡ Some n → view s .num n ≡ false
       go true o d = ap (view s .num) (sym (some-is (any-leg (q .intermediation)) n d)) ∙ o
-      go false o d = absurd (some-not n (sym d))
+      go false o d = absurd (none-some n d)
   open-before r (ConfirmIntermediation q) p n e =
       let o = confirm-joint-open s g r q (p .own) in
       ap (view s .num) (sym (some-is (any-leg (intermediation s (q .id))) n e)) ∙ any-open (intermediation s (q .id)) (o .0) (o .1)
-  open-before r (ExcludeIntermediation q) p n e = absurd (some-not n (sym e))
-  open-before r (Close q) p n e = absurd (some-not n (sym e))
+  open-before r (ExcludeIntermediation q) p n e = absurd (none-some n e)
+  open-before r (Close q) p n e = absurd (none-some n e)

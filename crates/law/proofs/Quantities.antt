@@ -1,9 +1,9 @@
 -- The entries that a confirming request leaves are positive. Assumes nothing.
 use mathlib.Core.Bool.{false≢true}
 use Rattle.fields.specs.Ranges.{entry-counts}
+use Rattle.keyed.proofs.Words.{Bool, true, false, cond, _&&_, _||_, List, [], _∷_, map, inl, inr, _≡_, refl, sym, ap, subst, _∙_, ℕ, _<_, arith, eqb, length, take, drop, take-at, and-parts, or-cases, Some}
 use Rattle.rows.specs.InUse.{good-entry, good-allocation, good-terms}
 use Rattle.chains.proofs.Matches.{Positive}
-use Rattle.chains.proofs.Words.{Bool, true, false, cond, _&&_, _||_, List, [], _∷_, map, inl, inr, _≡_, refl, sym, ap, subst, _∙_, ℕ, _<_, arith, eqb, length, take, drop, take-at, and-parts, or-cases, Some}
 use Rattle.book.specs.Effects.{filled-leg, placed}
 use Rattle.book.specs.Entries.{whole-entry, kept-entry, entries-of}
 use Rattle.book.specs.Numbering.{confirms-in}

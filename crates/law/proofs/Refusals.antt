@@ -1,7 +1,7 @@
 -- On which grounds a request is not refused.
 use Rattle.std.proofs.shelf.Ways.{tells}
 use Rattle.fields.specs.declared.account.AccountType.{AccountType}
-use Rattle.chains.proofs.Words.{Bool, false, true, cond, List, [], _∷_, ap, refl, sym, _≡_, _∙_, ℕ, _+_, arith, eqb, both-ways, eq-eqb, Option, None, Some}
+use Rattle.keyed.proofs.Words.{Bool, false, true, cond, List, [], _∷_, ap, refl, sym, _≡_, _∙_, ℕ, _+_, arith, eqb, both-ways, eq-eqb, Option, None, Some}
 use Rattle.book.specs.Entries.{entries-of, shown}
 use Rattle.book.specs.Fields.{side-fields, capture-fields, call-fields, cancel-fields, closing-fields, entries-fields, entry-fields, fields-verdict, inclusion-fields, intermediation-fields, leg-fields, party-fields}
 use Rattle.book.specs.Numbering.{completed}

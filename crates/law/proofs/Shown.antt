@@ -1,7 +1,8 @@
 -- What the rows of a book show by number.
-use Rattle.chains.proofs.Found.{put-map, put-same, still-there, look-put}
+use Rattle.keyed.proofs.Keys.{still-there}
+use Rattle.keyed.proofs.Words.{true, false, List, map, _≡_, refl, ap, fun-ext, _∙_, ℕ}
+use Rattle.chains.proofs.Puts.{put-map, put-same, look-put}
 use Rattle.chains.proofs.Walk.{put, Not0, Pair as Ends, pair}
-use Rattle.chains.proofs.Words.{true, false, List, map, _≡_, refl, ap, fun-ext, _∙_, ℕ}
 use Rattle.book.specs.Effects.{cancelled}
 use Rattle.book.specs.State.{State}
 use Rattle.law.proofs.Subject.{Intermediation, Pair, Side, Buyer, Seller, Terms, or-else, is-some, find, changed, other, id, no-intermediation, number, allocation, is-cancelled, is-numbered, no-trade, AllocationState, Trade}

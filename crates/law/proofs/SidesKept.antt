@@ -1,6 +1,6 @@
 -- Every request keeps the agreement with the plain book and the law of the sides.
-use Rattle.chains.proofs.Keys.{below-absent}
-use Rattle.chains.proofs.Words.{true, List, _∷_, _≡_, sym, ℕ, arith, Option, None, Ok, Err}
+use Rattle.keyed.proofs.Keys.{below-absent}
+use Rattle.keyed.proofs.Words.{true, List, _∷_, _≡_, sym, ℕ, arith, Option, None, Ok, Err}
 use Rattle.book.specs.Effects.{placed}
 use Rattle.book.specs.Numbering.{reply, effect, completed}
 use Rattle.book.specs.Runs.{Event, History}

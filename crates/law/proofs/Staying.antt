@@ -1,6 +1,6 @@
 -- A numbered chain stays as it is until the closing.
-use Rattle.chains.proofs.Lists.{each-map}
-use Rattle.chains.proofs.Words.{false, true, List, [], _∷_, ⊎-elim, refl, subst, sym, _≡_, _∙_, ℕ, cases-bool, Option, None, Some}
+use Rattle.keyed.proofs.Lists.{each-map}
+use Rattle.keyed.proofs.Words.{false, true, List, [], _∷_, ⊎-elim, refl, subst, sym, _≡_, _∙_, ℕ, cases-bool, Option, None, Some}
 use Rattle.book.specs.Runs.{Beginning, Call, History, Run, begun, ran, stepped}
 use Rattle.book.specs.State.{State, trade}
 use Rattle.book.specs.Steps.{outcome, step}

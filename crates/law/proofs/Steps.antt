@@ -1,10 +1,10 @@
 -- Every request keeps the pairs lawful.
-use Rattle.chains.proofs.Found.{some-not}
+use Rattle.keyed.proofs.Lists.{none-some}
+use Rattle.keyed.proofs.Words.{true, false, _&&_, List, [], _∷_, _++_, map, _⊎_, inl, inr, ⊎-elim, _≡_, refl, sym, ap, ap₂, subst, _∙_, ℕ, _≤_, _<_, arith, eqb, length, cases-eq, ne-eqb, eq-eqb, both-ways, and-parts, false≢true, Some}
 use Rattle.chains.proofs.Matches.{all-name}
 use Rattle.chains.proofs.Ties.{first-is}
 use Rattle.chains.proofs.Walk.{Not0, far, joined}
 use Rattle.chains.proofs.Walks.{far-stops, far-far, far-not0, member}
-use Rattle.chains.proofs.Words.{true, false, _&&_, List, [], _∷_, _++_, map, _⊎_, inl, inr, ⊎-elim, _≡_, refl, sym, ap, ap₂, subst, _∙_, ℕ, _≤_, _<_, arith, eqb, length, cases-eq, ne-eqb, eq-eqb, both-ways, and-parts, false≢true, Some}
 use Rattle.chains.specs.Following.{last-of}
 use Rattle.book.specs.Numbering.{chain-matches, issuer, new-pairs, all-numbered, numbering, confirms-in, with-numbers}
 use Rattle.book.specs.Runs.{History, Beginning}
@@ -52,15 +52,15 @@ ends-hold p sound adds m z c =
 -- ── A request that may complete a chain has numbers enough ──
 
 pub enough : (r : List Listed) (s : State) (q : Request) → Passed r s q → (n : ℕ) → confirms-in s q ≡ Some n → Enough r s q
-enough r s (Capture q) e n c = absurd (some-not n (sym c))
-enough r s (Cancel q) e n c = absurd (some-not n (sym c))
+enough r s (Capture q) e n c = absurd (none-some n c)
+enough r s (Cancel q) e n c = absurd (none-some n c)
 enough r s (Include q) e n c = e .own .enough
-enough r s (Remove q) e n c = absurd (some-not n (sym c))
+enough r s (Remove q) e n c = absurd (none-some n c)
 enough r s (Confirm q) e n c = e .own .enough
 enough r s (Intermediate q) e n c = e .own .enough
 enough r s (ConfirmIntermediation q) e n c = e .own .enough
-enough r s (ExcludeIntermediation q) e n c = absurd (some-not n (sym c))
-enough r s (Close q) e n c = absurd (some-not n (sym c))
+enough r s (ExcludeIntermediation q) e n c = absurd (none-some n c)
+enough r s (Close q) e n c = absurd (none-some n c)
 
 -- ── Numbering leaves the parts ──
 

@@ -1,13 +1,13 @@
 -- In a run from an empty book no chain is broken, and none of up to three trades is too long.
 use Rattle.std.proofs.shelf.Tests.{le-leb}
 use Rattle.fields.specs.declared.ground.Ground.{Ground}
+use Rattle.keyed.proofs.Lists.{each-in}
+use Rattle.keyed.proofs.Words.{false, not, true, _&&_, _||_, List, [], map, _∷_, ⊎-elim, inl, inr, ap, refl, subst, sym, _≡_, _∙_, ℕ, _+_, _≤_, arith, eqb, length, both-ways, cases-eq, eq-eqb, ne-eqb, and-from, Option, None, Some, Err}
 use Rattle.rows.specs.Hours.{in-time}
 use Rattle.rows.specs.Legs.{leg-holds, legs-hold}
-use Rattle.chains.proofs.Keys.{each-in}
 use Rattle.chains.proofs.Ties.{first-is}
 use Rattle.chains.proofs.Walk.{Not0}
 use Rattle.chains.proofs.Walks.{far-next}
-use Rattle.chains.proofs.Words.{false, not, true, _&&_, _||_, List, [], map, _∷_, ⊎-elim, inl, inr, ap, refl, subst, sym, _≡_, _∙_, ℕ, _+_, _≤_, arith, eqb, length, both-ways, cases-eq, eq-eqb, ne-eqb, and-from, Option, None, Some, Err}
 use Rattle.chains.specs.Following.{chain, tie-in}
 use Rattle.book.specs.Entries.{entries-of, kept-entry}
 use Rattle.book.specs.Joining.{apart-in, numbers-in, short-in}

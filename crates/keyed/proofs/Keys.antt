@@ -1,26 +1,14 @@
 -- What a changed, an entered and a removed row do to what is found by key.
+use Rattle.std.proofs.shelf.Tests.{lt-ltb}
+use Rattle.keyed.proofs.Lists.{each-in, is-some-mapped, none-some, some-same, mapped}
+use Rattle.keyed.proofs.Words.{and-from, ltb-false, Bool, true, false, cond, List, [], _∷_, map, inl, inr, ⊎-elim, _≡_, refl, sym, ap, subst, _∙_, ℕ, suc, _+_, _-_, _≤_, _<_, arith, eqb, ltb, length, cases-eq, cases-bool, ne-eqb, eq-eqb, and-parts, ltb-true, Option, Some, None}
 use Rattle.keyed.specs.Lists.{or-else, is-some}
 use Rattle.keyed.specs.Members.{Each, In}
 use Rattle.keyed.specs.Rows.{find, changed, removed, entered, rises-above}
-use Rattle.chains.proofs.Words.{Bool, true, false, cond, List, [], _∷_, map, inl, inr, ⊎-elim, _≡_, refl, sym, ap, subst, _∙_, ℕ, suc, _+_, _-_, _≤_, _<_, arith, eqb, ltb, length, cases-eq, cases-bool, ne-eqb, eq-eqb, and-parts, ltb-true, false≢true, Option, Some, None}
 
-abbrev pub mapped : {X Y : Type 0} → (X → Y) → Option X → Option Y
-mapped f None = None
-mapped f (Some x) = Some (f x)
-
-pub some-same : {X : Type 0} (x y : X) → Some x ≡ Some y → x ≡ y
-some-same x y e = ap (or-else x) e
-
-pub none-some : {X : Type 0} (x : X) → None ≡ Some x → ⊥
-none-some x e = false≢true (ap is-some e)
-
-pub some-of : {X : Type 0} (d : X) (o : Option X) → is-some o ≡ true → o ≡ Some (or-else d o)
-some-of d None e = absurd (false≢true e)
-some-of d (Some x) e = refl
-
-pub each-in : {X : Type 0} (P : X → Type 0) (x : X) (xs : List X) → Each P xs → In x xs → P x
-each-in P x [] a i = absurd i
-each-in P x (y ∷ ys) a i = ⊎-elim (λ (e : x ≡ y). subst P (sym e) (a .0)) (λ (j : In x ys). each-in P x ys (a .1) j) i
+cond-same : {X : Type 0} (b : Bool) (x : X) → cond b x x ≡ x
+cond-same true x = refl
+cond-same false x = refl
 
 module _ {R : Type 0} (key : R → ℕ) where
   pub row-here : (x : R) (xs : List R) (n : ℕ) → key x ≡ n → find key n (x ∷ xs) ≡ Some x
@@ -59,6 +47,52 @@ module _ {R : Type 0} (key : R → ℕ) where
         (λ (e : key y ≡ key x → ⊥). row-past y ys (key x) e ∙ h) (cases-eq (key y) (key x)))
       i
 
+
+  pub rise-parts : (x : R) (xs : List R) (k : ℕ) → rises-above key k (x ∷ xs) ≡ true → (k < key x) × (rises-above key (key x) xs ≡ true)
+  rise-parts x xs k r = let p = and-parts (ltb k (key x)) (rises-above key (key x) xs) r in (ltb-true _ _ (p .0), p .1)
+
+
+  pub rises-weaker : (xs : List R) (k n : ℕ) → rises-above key k xs ≡ true → n ≤ k → rises-above key n xs ≡ true
+  rises-weaker [] k n r l = refl
+  rises-weaker (x ∷ xs) k n r l =
+      let p = rise-parts x xs k r in
+      let b : k < key x = p .0 in
+      let c : n < key x = omega arith in and-from _ _ (lt-ltb _ _ c) (p .1)
+
+
+  pub rises-changed : (f : R → R) → ((x : R) → key (f x) ≡ key x) → (n : ℕ) (xs : List R) (k : ℕ)
+      → rises-above key k xs ≡ true → rises-above key k (changed key n f xs) ≡ true
+  rises-changed f keeps n [] k r = refl
+  rises-changed f keeps n (x ∷ xs) k r =
+      let p = and-parts _ _ r in
+      ⊎-elim (λ (e : eqb (key x) n ≡ true). rw (e, keeps x) r)
+      (λ (e : eqb (key x) n ≡ false). rw e (and-from _ _ (p .0) (rises-changed f keeps n xs (key x) (p .1))))
+      (cases-bool (eqb (key x) n))
+
+
+  pub rises-removed : (n : ℕ) (xs : List R) (k : ℕ) → rises-above key k xs ≡ true → rises-above key k (removed key n xs) ≡ true
+  rises-removed n [] k r = refl
+  rises-removed n (x ∷ xs) k r =
+      let p = rise-parts x xs k r in
+      let b : k < key x = p .0 in
+      ⊎-elim (λ (e : eqb (key x) n ≡ true). rw e (rises-weaker xs (key x) k (p .1) (omega arith)))
+      (λ (e : eqb (key x) n ≡ false). rw e (and-from _ _ (lt-ltb _ _ b) (rises-removed n xs (key x) (p .1))))
+      (cases-bool (eqb (key x) n))
+
+
+  pub rises-entered : (q : R) (xs : List R) (k : ℕ) → rises-above key k xs ≡ true → k < key q → find key (key q) xs ≡ None
+      → rises-above key k (entered key q xs) ≡ true
+  rises-entered q [] k r l a = and-from _ _ (lt-ltb _ _ l) refl
+  rises-entered q (x ∷ xs) k r l a =
+      let p = and-parts _ _ r in
+      let other : key x ≡ key q → ⊥ = λ y. none-some x (sym a ∙ row-here x xs (key q) y) in
+      ⊎-elim (λ (e : ltb (key x) (key q) ≡ true). rw e (and-from _ _ (p .0) (rises-entered q xs (key x) (p .1) (ltb-true _ _ e) (sym (row-past x xs (key q) other) ∙ a))))
+      (λ (e : ltb (key x) (key q) ≡ false). rw e (
+      let g = ltb-false _ _ e in
+      let h : key q < key x = ⊎-elim (λ (y : key x ≡ key q). absurd (other y)) (λ (y : key x ≡ key q → ⊥). omega arith) (cases-eq (key x) (key q)) in
+      and-from _ _ (lt-ltb _ _ l) (and-from _ _ (lt-ltb _ _ h) (p .1))))
+      (cases-bool (ltb (key x) (key q)))
+
   -- a row changed
   module _ (f : R → R) (keeps : (x : R) → key (f x) ≡ key x) where
     pub row-changed-same : (n : ℕ) (xs : List R) → find key n (changed key n f xs) ≡ mapped f (find key n xs)
@@ -75,6 +109,17 @@ module _ {R : Type 0} (key : R → ℕ) where
         (λ (e : key x ≡ n → ⊥). rw (ne-eqb _ _ e) (
         ⊎-elim (λ (i : key x ≡ m). rw (eq-eqb _ _ i) refl) (λ (i : key x ≡ m → ⊥). rw (ne-eqb _ _ i) (row-changed-other n m xs h)) (cases-eq (key x) m)))
         (cases-eq (key x) n)
+
+    -- both at once
+    pub row-changed : (n : ℕ) (xs : List R) (m : ℕ) → find key m (changed key n f xs) ≡ cond (eqb m n) (mapped f (find key n xs)) (find key m xs)
+    row-changed n xs m =
+        ⊎-elim (λ (e : m ≡ n). rw (eq-eqb _ _ e) (ap (λ k. find key k (changed key n f xs)) e ∙ row-changed-same n xs))
+        (λ (e : m ≡ n → ⊥). rw (ne-eqb _ _ e) (row-changed-other n m xs (λ y. e (sym y)))) (cases-eq m n)
+
+    pub still-there : (n : ℕ) (xs : List R) (m : ℕ) → is-some (find key m (changed key n f xs)) ≡ is-some (find key m xs)
+    still-there n xs m =
+        ⊎-elim (λ (e : m ≡ n). ap (λ k. is-some (find key k (changed key n f xs))) e ∙ ap is-some (row-changed-same n xs) ∙ is-some-mapped f (find key n xs) ∙ ap (λ k. is-some (find key k xs)) (sym e))
+        (λ (e : m ≡ n → ⊥). ap is-some (row-changed-other n m xs (λ y. e (sym y)))) (cases-eq m n)
 
     pub length-changed : (n : ℕ) (xs : List R) → length (changed key n f xs) ≡ length xs
     length-changed n [] = refl
@@ -138,15 +183,19 @@ module _ {R : Type 0} (key : R → ℕ) where
       (cases-eq (key x) n)
 
   -- a row entered
-  pub row-entered : (new : R) (xs : List R) (m : ℕ) → find key (key new) xs ≡ None → find key m (entered key new xs) ≡ cond (eqb (key new) m) (Some new) (find key m xs)
-  row-entered new [] m a = refl
-  row-entered new (x ∷ xs) m a =
-      let apart : key x ≡ key new → ⊥ = λ e. none-some x (sym a ∙ row-here x xs (key new) e) in
-      ⊎-elim (λ (l : ltb (key x) (key new) ≡ true). rw l (
-      ⊎-elim (λ (i : key x ≡ m). rw (eq-eqb _ _ i, ne-eqb (key new) m (λ y. apart (i ∙ sym y))) refl)
-      (λ (i : key x ≡ m → ⊥). rw (ne-eqb _ _ i) (row-entered new xs m (sym (row-past x xs (key new) apart) ∙ a))) (cases-eq (key x) m)))
-      (λ (l : ltb (key x) (key new) ≡ false). rw l refl)
-      (cases-bool (ltb (key x) (key new)))
+  pub row-entered : (r : R) (xs : List R) (m : ℕ) → find key (key r) xs ≡ None
+      → find key m (entered key r xs) ≡ cond (eqb m (key r)) (Some r) (find key m xs)
+  row-entered r [] m a = ⊎-elim (λ (i : m ≡ key r). rw (eq-eqb _ _ i, eq-eqb _ _ (sym i)) refl)
+      (λ (i : m ≡ key r → ⊥). rw (ne-eqb _ _ i, ne-eqb _ _ (λ y. i (sym y))) refl) (cases-eq m (key r))
+  row-entered r (x ∷ xs) m a =
+      let other : key x ≡ key r → ⊥ = λ y. none-some x (sym a ∙ row-here x xs (key r) y) in
+      ⊎-elim (λ (l : ltb (key x) (key r) ≡ true). rw l (
+      ⊎-elim (λ (i : key x ≡ m). rw (eq-eqb _ _ i, ne-eqb m (key r) (λ y. other (i ∙ y))) refl)
+      (λ (i : key x ≡ m → ⊥). rw (ne-eqb _ _ i) (row-entered r xs m (sym (row-past x xs (key r) other) ∙ a))) (cases-eq (key x) m)))
+      (λ (l : ltb (key x) (key r) ≡ false). rw l (
+      ⊎-elim (λ (i : m ≡ key r). rw (eq-eqb _ _ i, eq-eqb _ _ (sym i)) refl)
+      (λ (i : m ≡ key r → ⊥). rw (ne-eqb _ _ i, ne-eqb (key r) m (λ y. i (sym y))) refl) (cases-eq m (key r))))
+      (cases-bool (ltb (key x) (key r)))
 
   pub each-entered : (P : R → Type 0) (new : R) (xs : List R) → P new → Each P xs → Each P (entered key new xs)
   each-entered P new [] h a = (h, tt)
@@ -160,6 +209,21 @@ module _ {R : Type 0} (key : R → ℕ) where
       ⊎-elim (λ (l : ltb (key x) (key new) ≡ true). rw l (omega arith)) (λ (l : ltb (key x) (key new) ≡ false). rw l (omega arith)) (cases-bool (ltb (key x) (key new)))
 
   -- a row removed
+
+  pub row-removed : (n : ℕ) (xs : List R) (m k : ℕ) → rises-above key k xs ≡ true
+      → find key m (removed key n xs) ≡ cond (eqb m n) None (find key m xs)
+  row-removed n [] m k r = sym (cond-same (eqb m n) None)
+  row-removed n (x ∷ xs) m k r =
+      let p = rise-parts x xs k r in
+      ⊎-elim (λ (e : key x ≡ n). rw (eq-eqb _ _ e) (
+      ⊎-elim (λ (i : m ≡ n). rw (eq-eqb m n i) (let l : m ≤ key x = (let j : m ≡ key x = i ∙ sym e in omega arith) in below-absent (key x) m xs (p .1) l))
+      (λ (i : m ≡ n → ⊥). rw (ne-eqb m n i, ne-eqb (key x) m (λ y. i (sym y ∙ e))) refl)
+      (cases-eq m n)))
+      (λ (e : key x ≡ n → ⊥). rw (ne-eqb _ _ e) (
+      ⊎-elim (λ (i : key x ≡ m). rw (eq-eqb _ _ i, ne-eqb m n (λ y. e (i ∙ y))) refl)
+      (λ (i : key x ≡ m → ⊥). rw (ne-eqb _ _ i) (row-removed n xs m (key x) (p .1))) (cases-eq (key x) m)))
+      (cases-eq (key x) n)
+
   pub removed-absent : (n : ℕ) (xs : List R) → find key n xs ≡ None → removed key n xs ≡ xs
   removed-absent n [] h = refl
   removed-absent n (x ∷ xs) h =

@@ -1,7 +1,7 @@
 -- Filters, sums and what holds of each, over lists put together. Assumes nothing.
-use Rattle.keyed.specs.Lists.{those, sum}
+use Rattle.keyed.proofs.Words.{None, Option, Some, and-parts, sym, Bool, true, false, cond, List, [], _∷_, _++_, inl, inr, _≡_, refl, ap, _∙_, ℕ, _+_, arith, false≢true}
+use Rattle.keyed.specs.Lists.{those, sum, is-some, or-else, all}
 use Rattle.keyed.specs.Members.{Each, In}
-use Rattle.chains.proofs.Words.{Bool, true, false, cond, List, [], _∷_, _++_, inl, inr, _≡_, refl, ap, _∙_, ℕ, _+_, arith}
 
 -- ── Each ──
 
@@ -21,6 +21,12 @@ each-in P x (y ∷ ys) h (inr i) = each-in P x ys (h .1) i
 pub from-in : {X : Type 0} (P : X → Type 0) (xs : List X) → ((x : X) → In x xs → P x) → Each P xs
 from-in P [] f = tt
 from-in P (x ∷ xs) f = (f x (inl refl), from-in P xs (λ y i. f y (inr i)))
+
+
+pub all-in : {X : Type 0} (p : X → Bool) (xs : List X) (x : X) → all p xs ≡ true → In x xs → p x ≡ true
+all-in p [] x h i = absurd i
+all-in p (y ∷ xs) x h (inl e) = ap p e ∙ and-parts _ _ h .0
+all-in p (y ∷ xs) x h (inr i) = all-in p xs x (and-parts _ _ h .1) i
 
 -- ── those ──
 
@@ -63,3 +69,27 @@ counted f false x xs = omega arith
 pub sum-those : {X : Type 0} (f : X → ℕ) (p : X → Bool) (xs : List X) → sum f (those p xs) ≡ sum (λ x. cond (p x) (f x) 0) xs
 sum-those f p [] = refl
 sum-those f p (x ∷ xs) = counted f (p x) x (those p xs) ∙ ap (λ n. cond (p x) (f x) 0 + n) (sum-those f p xs)
+
+-- ── Options ──
+
+abbrev pub mapped : {X Y : Type 0} → (X → Y) → Option X → Option Y
+mapped f None = None
+mapped f (Some x) = Some (f x)
+
+pub some-same : {X : Type 0} (x y : X) → Some x ≡ Some y → x ≡ y
+some-same x y e = ap (or-else x) e
+
+pub none-some : {X : Type 0} (x : X) → None ≡ Some x → ⊥
+none-some x e = false≢true (ap is-some e)
+
+pub some-of : {X : Type 0} (d : X) (o : Option X) → is-some o ≡ true → o ≡ Some (or-else d o)
+some-of d None e = absurd (false≢true e)
+some-of d (Some x) e = refl
+
+pub none-by : {X : Type 0} (o : Option X) → is-some o ≡ false → o ≡ None
+none-by None h = refl
+none-by (Some x) h = absurd (false≢true (sym h))
+
+pub is-some-mapped : {X Y : Type 0} (f : X → Y) (o : Option X) → is-some (mapped f o) ≡ is-some o
+is-some-mapped f None = refl
+is-some-mapped f (Some x) = refl
