@@ -1,7 +1,8 @@
 -- Every accepted request keeps the book sound.
 use Rattle.keyed.proofs.Keys.{rises-changed, rises-entered, rises-removed, below-absent, row-found}
-use Rattle.keyed.proofs.Lists.{none-by, some-of, all-in, none-some}
-use Rattle.keyed.proofs.Words.{Bool, true, false, not, _&&_, _||_, cond, List, [], _∷_, map, ⊎-elim, _≡_, refl, sym, ap, ap₂, subst, _∙_, ℕ, _+_, _≤_, _<_, arith, eqb, length, cond-both, cases-eq, eqb-true, eqb-false, eq-eqb, both-ways, and-parts, and-from, or-cases, not-true, false≢true, Option, Some, None}
+use Rattle.keyed.proofs.Lists.{none-by, some-of, all-in, none-some, some-same}
+use Rattle.keyed.proofs.Words.{Bool, true, false, not, _&&_, _||_, cond, List, [], _∷_, map, ⊎-elim, _≡_, refl, sym, ap, ap₂, subst, _∙_, ℕ, _+_, _≤_, _<_, arith, eqb, length, cond-both, cases-eq, eqb-false, eq-eqb, both-ways, and-parts, and-from, or-cases, not-true, Option, Some, None}
+use Rattle.rows.proofs.Sides.{alike-parts, filled-state, filled-tie}
 use Rattle.rows.specs.Legs.{leg as leg-of}
 use Rattle.chains.proofs.Walk.{put, Not0, Walk, Half, count}
 use Rattle.chains.proofs.Walks.{put-cases, put-at, member}
@@ -18,7 +19,7 @@ use Rattle.law.proofs.Kept.{walk, sides-kept, voided-kept, captured-kept, link
 use Rattle.law.proofs.Opens.{not-num, num-buyer, num-seller, num-next-not, num-prev-not, side-alone, gone-b, gone-s, open-not, self-s, cancel-one}
 use Rattle.law.proofs.Passed.{Captures, Confirms, Confirms-both, Excludes, Free, Includes, Intermediates, Passed, Stands, Tables, leg-is-there}
 use Rattle.law.proofs.Shown.{common, view, None0, both-kept}
-use Rattle.law.proofs.Subject.{in-range, numbers-or-none, accounts, numbers, participants, Intermediation, Kind, Selic, Deposited, Registered, Side, Buyer, Seller, Terms, or-else, is-some, any, In, Table, find, changed, removed-in, rises-above, Listed, Cancellation, Inclusion, IntermediationCall, NewIntermediation, NewTrade, Request, Capture, Cancel, Include, Remove, Confirm, Intermediate, ConfirmIntermediation, ExcludeIntermediation, Close, SideCall, same-kind, is-confirmed, emptied, confirmed, confirmed-if, filled, entries-held, good-intermediation, has-leg, id, no-intermediation, any-leg, both-legs, number, allocation, at-side, numbered, captured, both-confirmed, alike, numbered-in, Allocation, AllocationState, Empty, Allocated, Confirmed, KeptEntry, Trade}
+use Rattle.law.proofs.Subject.{numbers, Intermediation, Side, Buyer, Seller, Terms, or-else, is-some, any, In, Table, find, changed, removed-in, rises-above, Listed, Cancellation, Inclusion, IntermediationCall, NewIntermediation, NewTrade, Request, Capture, Cancel, Include, Remove, Confirm, Intermediate, ConfirmIntermediation, ExcludeIntermediation, Close, SideCall, is-confirmed, emptied, confirmed, entries-held, good-intermediation, has-leg, id, no-intermediation, any-leg, both-legs, number, allocation, at-side, numbered, captured, both-confirmed, alike, numbered-in, Allocation, AllocationState, Empty, Allocated, Confirmed, KeptEntry, Trade}
 use Rattle.law.proofs.Views.{View, sure, next, prev, first, sides, link, exclude, leg, live, Sound as Seen}
 
 -- what every request keeps: what the rows show is sound, and the keys rise
@@ -37,15 +38,6 @@ Confirmed-hold r s q = (m : ℕ) → confirms-in s q ≡ Some m → Ends-hold (p
 
 pub not0-pos : (n : ℕ) → Not0 n → 0 < n
 not0-pos n z = ⊎-elim (λ (e : n ≡ 0). absurd (z e)) (λ (e : n ≡ 0 → ⊥). omega arith) (cases-eq n 0)
-
--- what filling a side makes of it
-filled-state : (b : Bool) (es : List KeptEntry) (i : ℕ) (d : Allocation) → confirmed-if b (filled es i d) .state ≡ cond b Confirmed Allocated
-filled-state true es i d = refl
-filled-state false es i d = refl
-
-filled-tie : (b : Bool) (es : List KeptEntry) (i : ℕ) (d : Allocation) → confirmed-if b (filled es i d) .tie ≡ i
-filled-tie true es i d = refl
-filled-tie false es i d = refl
 
 keys-numbered : (c : List Trade) (t : Table Trade) → rises-above number 0 (t .rows) ≡ true → rises-above number 0 (all-numbered c t .rows) ≡ true
 keys-numbered [] t h = h
@@ -92,14 +84,6 @@ some-leg x h =
     (or-cases (has-leg Buyer x) (has-leg Seller x) h))
     (λ (e : Not0 (x .bought)). λ y. e (sym (leg-left (x .bought) (x .sold) e) ∙ any-leg-is x ∙ y))
     (cases-eq (x .bought) 0)
-
-last-and : (a b c d e f : Bool) → (a && b && c && d && e && f) ≡ true → f ≡ true
-last-and true true true true true f h = h
-last-and true true true true false f h = absurd (false≢true h)
-last-and true true true false e f h = absurd (false≢true h)
-last-and true true false d e f h = absurd (false≢true h)
-last-and true false c d e f h = absurd (false≢true h)
-last-and false b c d e f h = absurd (false≢true h)
 
 module _ (s : State) (g : Sound s) where
   pub none0 : None0 (s .trades .rows)
@@ -225,7 +209,7 @@ module _ (s : State) (g : Sound s) where
       let x = intermediation s i in
       let found : In x (s .intermediations .rows) = row-found id i (s .intermediations .rows) x (some-of no-intermediation (find id i (s .intermediations .rows)) h) .0 in
       let good : good-intermediation x ≡ true = all-in good-intermediation (s .intermediations .rows) x (t .intermediations) found in
-      some-leg x (last-and (in-range numbers (x .id)) (in-range participants (x .participant)) (in-range accounts (x .account)) (in-range numbers-or-none (x .bought)) (in-range numbers-or-none (x .sold)) (has-leg Buyer x || has-leg Seller x) good)
+      some-leg x (and-parts _ _ good .1)
 
   pub confirm-intermediation-conf : (r : List Listed) (q : IntermediationCall) → Tables s → Confirms-both r s q → Confirming (placed r s (ConfirmIntermediation q)) (any-leg (intermediation s (q .id)))
   unfolding placed
@@ -306,23 +290,8 @@ module _ (s : State) (g : Sound s) where
   unfolding effect completed placed
   exclude-sound r q t p = let o = exclude-open q t p in excluded-is (q .id) (exclude-kept (view s) (g .seen) (q .id) (o .0) (o .1)) .1
 
-  same-kinds : (k l : Kind) → same-kind k l ≡ true → k ≡ l
-  same-kinds Selic Selic h = refl
-  same-kinds Selic Deposited h = absurd (false≢true h)
-  same-kinds Selic Registered h = absurd (false≢true h)
-  same-kinds Deposited Selic h = absurd (false≢true h)
-  same-kinds Deposited Deposited h = refl
-  same-kinds Deposited Registered h = absurd (false≢true h)
-  same-kinds Registered Selic h = absurd (false≢true h)
-  same-kinds Registered Deposited h = absurd (false≢true h)
-  same-kinds Registered Registered h = refl
-
   alike-common : (t u : Terms) → alike t u ≡ true → common t ≡ common u
-  alike-common t u h =
-      let a = and-parts (same-kind (t .kind) (u .kind) && eqb (t .asset) (u .asset) && eqb (t .quantity) (u .quantity)) (eqb (t .settlement) (u .settlement)) h in
-      let b = and-parts (same-kind (t .kind) (u .kind) && eqb (t .asset) (u .asset)) (eqb (t .quantity) (u .quantity)) (a .0) in
-      let c = and-parts (same-kind (t .kind) (u .kind)) (eqb (t .asset) (u .asset)) (b .0) in
-      λ i. record { kind = same-kinds (t .kind) (u .kind) (c .0) i; asset = eqb-true _ _ (c .1) i; quantity = eqb-true _ _ (b .1) i; settlement = eqb-true _ _ (a .1) i }
+  alike-common t u h = let a = alike-parts t u h in λ i. record { kind = a .kind i; asset = a .asset i; quantity = a .quantity i; settlement = a .settlement i }
 
   -- a trade that is not in the chain of another has another first trade
   apart-chains : (a c : ℕ) → is-some (find number a (s .trades .rows)) ≡ true → Not0 a → Not0 c
@@ -467,9 +436,6 @@ module _ (s : State) (g : Sound s) where
   accepted r (ExcludeIntermediation q) p h = exclude-sound s g r q (p .tables) (p .own)
   accepted r (Close q) p h = record { seen = nothing-sound; trade-keys = refl; intermediation-keys = refl }
 
-  some-is : (x y : ℕ) → Some x ≡ Some y → x ≡ y
-  some-is x y e = ap (or-else 0) e
-
   -- what a confirming request leaves
   pub confirming : (r : List Listed) (q : Request) → Passed r s q → (n : ℕ) → confirms-in s q ≡ Some n → Confirming (placed r s q) n
   confirming r (Capture q) p n e = absurd (none-some n e)
@@ -477,15 +443,15 @@ module _ (s : State) (g : Sound s) where
   confirming r (Include q) p n e = go (q .now) refl e
     where
       go : (b : Bool) → q .now ≡ b → cond b (Some (q .trade)) None ≡ Some n → Confirming (placed r s (Include q)) n
-      go true now d = subst (Confirming (placed r s (Include q))) (some-is (q .trade) n d) (include-conf s g r q (p .own) now)
+      go true now d = subst (Confirming (placed r s (Include q))) (some-same (q .trade) n d) (include-conf s g r q (p .own) now)
       go false now d = absurd (none-some n d)
   confirming r (Remove q) p n e = absurd (none-some n e)
-  confirming r (Confirm q) p n e = subst (Confirming (placed r s (Confirm q))) (some-is (q .trade) n e) (confirm-conf s g r q (p .own))
+  confirming r (Confirm q) p n e = subst (Confirming (placed r s (Confirm q))) (some-same (q .trade) n e) (confirm-conf s g r q (p .own))
   confirming r (Intermediate q) p n e = go (q .now) refl e
     where
       go : (b : Bool) → q .now ≡ b → cond b (Some (any-leg (q .intermediation))) None ≡ Some n → Confirming (placed r s (Intermediate q)) n
-      go true now d = subst (Confirming (placed r s (Intermediate q))) (some-is (any-leg (q .intermediation)) n d) (join-conf s g r q (p .own) now)
+      go true now d = subst (Confirming (placed r s (Intermediate q))) (some-same (any-leg (q .intermediation)) n d) (join-conf s g r q (p .own) now)
       go false now d = absurd (none-some n d)
-  confirming r (ConfirmIntermediation q) p n e = subst (Confirming (placed r s (ConfirmIntermediation q))) (some-is (any-leg (intermediation s (q .id))) n e) (confirm-intermediation-conf s g r q (p .tables) (p .own))
+  confirming r (ConfirmIntermediation q) p n e = subst (Confirming (placed r s (ConfirmIntermediation q))) (some-same (any-leg (intermediation s (q .id))) n e) (confirm-intermediation-conf s g r q (p .tables) (p .own))
   confirming r (ExcludeIntermediation q) p n e = absurd (none-some n e)
   confirming r (Close q) p n e = absurd (none-some n e)

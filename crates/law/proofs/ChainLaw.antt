@@ -4,7 +4,7 @@ use Rattle.keyed.proofs.Lists.{none-by, some-of, from-in, none-some}
 use Rattle.keyed.proofs.Words.{true, _&&_, List, [], _∷_, inl, inr, ⊎-elim, _≡_, refl, sym, ap, subst, _∙_, ℕ, _≤_, _<_, arith, eqb, length, cases-eq, eq-eqb, and-from}
 use Rattle.chains.proofs.Walk.{Not0}
 use Rattle.book.specs.State.{State, trade, intermediation}
-use Rattle.law.proofs.Accepts.{Sound, halves-of, there-of}
+use Rattle.law.proofs.Accepts.{Sound, halves-of, there-of, not0-pos}
 use Rattle.law.proofs.Chained.{tie-at, leg-at, leg-some, jo-id}
 use Rattle.law.proofs.Shown.{common, view}
 use Rattle.law.proofs.Subject.{Intermediation, Kind, Selic, Deposited, Registered, Side, Buyer, Terms, or-else, is-some, In, Each, find, same-kind, id, leg, no-intermediation, number, allocation, no-trade, alike, Trade}
@@ -13,9 +13,6 @@ use Rattle.law.specs.Law.{None-twice, Link, Holder, Linked, Chains}
 
 pub pos-not0 : (n : ℕ) → 0 < n → Not0 n
 pos-not0 n h e = absurd (omega arith)
-
-pub not0-pos : (n : ℕ) → Not0 n → 0 < n
-not0-pos n z = ⊎-elim (λ (e : n ≡ 0). absurd (z e)) (λ (e : n ≡ 0 → ⊥). omega arith) (cases-eq n 0)
 
 kind-self : (k : Kind) → same-kind k k ≡ true
 kind-self Selic = refl

@@ -1,15 +1,17 @@
 -- The trades of a completed chain are rows, with the terms that the plain book has. Assumes nothing.
 use mathlib.Core.List.{reverse, reverse-append}
 use lib.Dec.{leb}
+use Rattle.keyed.proofs.Keys.{row-found}
 use Rattle.keyed.proofs.Lists.{none-by, some-of, each-append, each-map}
-use Rattle.keyed.proofs.Words.{Bool, true, false, cond, List, [], _∷_, _++_, map, ⊎-elim, _≡_, refl, sym, ap, subst, _∙_, ℕ, zero, suc, arith, eqb, length, cases-bool, cond-both, eqb-true, Option, Some, None}
+use Rattle.keyed.proofs.Words.{Bool, true, false, cond, List, [], _∷_, _++_, map, ⊎-elim, _≡_, refl, sym, ap, subst, _∙_, ℕ, zero, suc, arith, eqb, length, cases-bool, cond-both, Option, Some, None}
+use Rattle.rows.proofs.Sides.{side-terms}
 use Rattle.chains.specs.Following.{Beyond, nothing, broken, tied-back, by-intermediation, beyond, onto, way, together, chain, a-trade, by-tie, tie-in, tie-of, onward}
 use Rattle.book.specs.Effects.{placed}
 use Rattle.book.specs.Numbering.{confirms-in, chain-confirmed, completed}
 use Rattle.book.specs.Runs.{History, Beginning}
 use Rattle.book.specs.State.{State, trade, intermediation, chain-in, chain-of}
 use Rattle.law.proofs.Events.{Kind-known}
-use Rattle.law.proofs.Subject.{Intermediation, Side, Buyer, Seller, or-else, all, is-some, Each, find, changed, Listed, Request, Capture, Cancel, Include, Remove, Confirm, Intermediate, ConfirmIntermediation, ExcludeIntermediation, Close, is-selic, other, confirmed, id, leg, number, both-confirmed, at-side, no-trade, Allocation, Trade}
+use Rattle.law.proofs.Subject.{Intermediation, Side, Buyer, Seller, or-else, all, is-some, Each, find, changed, Listed, Request, Capture, Cancel, Include, Remove, Confirm, Intermediate, ConfirmIntermediation, ExcludeIntermediation, Close, is-selic, other, confirmed, id, leg, number, both-confirmed, at-side, no-trade, Trade}
 use Rattle.law.specs.Law.{Agrees, as-plain}
 use Rattle.law.specs.Plain.{Plain, plain, plain-number, terms-of, terms-in}
 
@@ -32,16 +34,8 @@ terms-agree p s a n = ap (λ ts. terms-of (find plain-number n ts)) (sym (a .tra
 abbrev pub Found : List Trade → Trade → Type 0
 Found ts u = find number (number u) ts ≡ Some u
 
-pub found-key : (n : ℕ) (ts : List Trade) (u : Trade) → find number n ts ≡ Some u → number u ≡ n
-found-key n [] u h = let z : _≡_ {A = ℕ} 0 1 = cc in absurd (omega arith)
-found-key n (t ∷ ts) u h = go (found-key n ts u) (eqb (number t) n) refl h
-  where
-    go : (find number n ts ≡ Some u → number u ≡ n) → (z : Bool) → eqb (number t) n ≡ z → cond z (Some t) (find number n ts) ≡ Some u → number u ≡ n
-    go ih true e h = let same : t ≡ u = cc in ap number (sym same) ∙ eqb-true (number t) n e
-    go ih false e h = ih h
-
 pub found-self : (n : ℕ) (ts : List Trade) (u : Trade) → find number n ts ≡ Some u → Found ts u
-found-self n ts u h = ap (λ k. find number k ts) (found-key n ts u h) ∙ h
+found-self n ts u h = ap (λ k. find number k ts) (row-found number n ts u h .1) ∙ h
 
 -- ── The trades of a chain are rows ──
 
@@ -169,10 +163,6 @@ part-changed g f key same k n (t ∷ ts) = go (part-changed g f key same k n ts)
 
 pub terms-changed : (f : Trade → Trade) → ((t : Trade) → f t .terms ≡ t .terms) → (k n : ℕ) (ts : List Trade) → trade-at (changed number k f ts) n .terms ≡ trade-at ts n .terms
 terms-changed f same k n ts = part-changed (λ t. t .terms) f (λ t. ap (λ e. e .number) (same t)) same k n ts
-
-pub side-terms : (w : Side) (f : Allocation → Allocation) (t : Trade) → at-side w f t .terms ≡ t .terms
-side-terms Buyer f t = refl
-side-terms Seller f t = refl
 
 -- a request that may complete a chain changes no terms
 pub placed-terms : (r : List Listed) (s : State) (q : Request) (m : ℕ) → confirms-in s q ≡ Some m → (n : ℕ) → trade (placed r s q) n .terms ≡ trade s n .terms

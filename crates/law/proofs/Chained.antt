@@ -3,6 +3,7 @@ use Rattle.std.proofs.shelf.Tests.{or-parts}
 use Rattle.keyed.proofs.Keys.{row-found}
 use Rattle.keyed.proofs.Lists.{some-of, none-by}
 use Rattle.keyed.proofs.Words.{Bool, true, false, _&&_, _||_, cond, List, [], _∷_, map, ⊎-elim, _≡_, refl, sym, ap, ap₂, _∙_, ℕ, suc, eqb, length, cases-eq, cases-bool, ne-eqb, eq-eqb, Some}
+use Rattle.rows.proofs.Sides.{none-leg}
 use Rattle.chains.proofs.Ties.{first-is}
 use Rattle.chains.proofs.Walk.{Not0, one, far, Walk, Half, count-from, whole-from}
 use Rattle.chains.proofs.Walks.{far-is, one-stays, one-goes, turned}
@@ -22,12 +23,8 @@ on ts xs w n = leg-at xs (other w) (tie-at ts w n)
 
 pub leg-some : (xs : List Intermediation) (w : Side) (i : ℕ) → Not0 (leg-at xs w i) → is-some (find id i xs) ≡ true
 leg-some xs w i z = ⊎-elim (λ (e : is-some (find id i xs) ≡ true). e)
-    (λ (e : is-some (find id i xs) ≡ false). absurd (z (ap (λ o. leg w (or-else no-intermediation o)) (none-by (find id i xs) e) ∙ none w)))
+    (λ (e : is-some (find id i xs) ≡ false). absurd (z (ap (λ o. leg w (or-else no-intermediation o)) (none-by (find id i xs) e) ∙ none-leg w)))
     (cases-bool (is-some (find id i xs)))
-  where
-    none : (w : Side) → leg w no-intermediation ≡ 0
-    none Buyer = refl
-    none Seller = refl
 
 pub jo-id : (xs : List Intermediation) (i : ℕ) → is-some (find id i xs) ≡ true → jo xs i .id ≡ i
 jo-id xs i h = row-found id i xs (jo xs i) (some-of no-intermediation (find id i xs) h) .1

@@ -1,7 +1,9 @@
 -- The pairs of a completed chain are as the law asks. Assumes nothing.
 use mathlib.Core.Bool.{false≢true}
+use Rattle.keyed.proofs.Keys.{each-row}
 use Rattle.keyed.proofs.Lists.{each-map}
-use Rattle.keyed.proofs.Words.{Bool, true, false, cond, _&&_, List, [], _∷_, _++_, map, _≡_, refl, sym, ap, subst, _∙_, ℕ, _<_, _≤_, arith, eqb, length, and-parts, eqb-true, Option, Some, None}
+use Rattle.keyed.proofs.Words.{true, false, cond, List, [], _∷_, _++_, map, _≡_, refl, sym, ap, subst, _∙_, ℕ, _<_, _≤_, arith, length, and-parts, Option, Some, None}
+use Rattle.rows.proofs.Sides.{alike-parts, confirmed-filled, some-entries}
 use Rattle.chains.proofs.Matches.{Level, pairs-paired}
 use Rattle.chains.specs.Following.{last-of}
 use Rattle.chains.specs.Paired.{Paired}
@@ -13,7 +15,7 @@ use Rattle.law.proofs.Events.{Unnumbered}
 use Rattle.law.proofs.Histories.{Issued, begun-before}
 use Rattle.law.proofs.PairLaw.{Full}
 use Rattle.law.proofs.Quantities.{Sound-trade, each-changed}
-use Rattle.law.proofs.Subject.{Entry, Side, Buyer, Seller, Terms, or-else, Each, Table, find, changed-in, same-kind, is-empty, is-confirmed, total, entries-held, number, allocation, both-confirmed, alike, numbered, no-trade, AllocationState, Empty, Allocated, Confirmed, Trade, all}
+use Rattle.law.proofs.Subject.{Side, Buyer, Seller, or-else, Each, Table, find, changed-in, is-empty, is-confirmed, total, entries-held, number, allocation, both-confirmed, alike, numbered, no-trade, Trade, all}
 use Rattle.law.specs.Law.{Sides, Linked, Chains, final, begun-for}
 use Rattle.law.specs.Plain.{given}
 
@@ -33,25 +35,12 @@ numbered-sound (u ∷ c) t h =
 
 -- ── What is said of a trade both of whose sides are confirmed ──
 
-each-found : (P : Trade → Type 0) (n : ℕ) (ts : List Trade) (u : Trade) → find number n ts ≡ Some u → Each P ts → P u
-each-found P n [] u e h = let z : _≡_ {A = ℕ} 0 1 = cc in absurd (omega arith)
-each-found P n (t ∷ ts) u e h = go (each-found P n ts u) (eqb (number t) n) e
-  where
-    go : (find number n ts ≡ Some u → Each P ts → P u) → (z : Bool) → cond z (Some t) (find number n ts) ≡ Some u → P u
-    go ih true e = let same : t ≡ u = cc in subst P same (h .0)
-    go ih false e = ih e (h .1)
-
 pub at-confirmed : (P : Trade → Type 0) (s : State) (n : ℕ) → Each P (s .trades .rows) → both-confirmed (trade s n) ≡ true → P (trade s n)
 at-confirmed P s n all h = go (find number n (s .trades .rows)) refl h
   where
     go : (o : Option Trade) → find number n (s .trades .rows) ≡ o → both-confirmed (or-else no-trade o) ≡ true → P (or-else no-trade o)
     go None e h = absurd (false≢true h)
-    go (Some u) e h = each-found P n (s .trades .rows) u e all
-
-confirmed-filled : (st : AllocationState) → is-confirmed st ≡ true → is-empty st ≡ false
-confirmed-filled Empty h = absurd (false≢true h)
-confirmed-filled Allocated h = refl
-confirmed-filled Confirmed h = refl
+    go (Some u) e h = each-row number P n (s .trades .rows) u all e
 
 either-side : (t : Trade) → both-confirmed t ≡ true → (w : Side) → is-empty (allocation w t .state) ≡ false
 either-side t h Buyer = confirmed-filled (t .buyer .state) (and-parts (is-confirmed (t .buyer .state)) (is-confirmed (t .seller .state)) h .0)
@@ -68,25 +57,11 @@ pub final-each : (P : ℕ → Type 0) (n : ℕ) (os : List ℕ) → P n → Each
 final-each P n [] x h = x
 final-each P n (m ∷ os) x h = final-each P m os (h .0) (h .1)
 
-third : (a b c d : Bool) → (a && b && c && d) ≡ true → c ≡ true
-third true true true d h = refl
-third true true false d h = absurd (false≢true h)
-third true false c d h = absurd (false≢true h)
-third false b c d h = absurd (false≢true h)
-
-alike-quantity : (t u : Terms) → alike t u ≡ true → u .quantity ≡ t .quantity
-alike-quantity t u e =
-    sym (eqb-true (t .quantity) (u .quantity) (third (same-kind (t .kind) (u .kind)) (eqb (t .asset) (u .asset)) (eqb (t .quantity) (u .quantity)) (eqb (t .settlement) (u .settlement)) e))
-
 pub quantity-same : (s : State) → Chains s → (n : ℕ) (os : List ℕ) → Linked (s .intermediations .rows) (n ∷ os) → trade s (final n os) .terms .quantity ≡ trade s n .terms .quantity
 quantity-same s c n os l =
     final-each (λ m. trade s m .terms .quantity ≡ trade s n .terms .quantity) n os refl
     (each-map (λ m. alike (trade s n .terms) (trade s m .terms) ≡ true) (λ m. trade s m .terms .quantity ≡ trade s n .terms .quantity)
-    (λ m e. alike-quantity (trade s n .terms) (trade s m .terms) e) os (c .equal n os l))
-
-some-shares : (es : List Entry) → 0 < total es → 0 < length es
-some-shares [] h = h
-some-shares (e ∷ es) h = omega arith
+    (λ m e. sym (alike-parts (trade s n .terms) (trade s m .terms) e .quantity)) os (c .equal n os l))
 
 pub record Ends (s : State) (first last : ℕ) : Type 0 where
   pub level : Level (entries-held (trade s first .seller)) (entries-held (trade s last .buyer))
@@ -105,8 +80,8 @@ full-ends day h s sides chains sound first others full =
     let same = quantity-same s chains first others (full .chain .linked) in
     record {
       level = (a .seller, z .buyer, sold ∙ sym same ∙ sym bought);
-      sellers = some-shares (entries-held (trade s first .seller)) (subst (λ n. 0 < n) (sym sold) (a .quantity));
-      buyers = some-shares (entries-held (trade s (final first others) .buyer)) (subst (λ n. 0 < n) (sym bought) (z .quantity)) }
+      sellers = some-entries (entries-held (trade s first .seller)) (subst (λ n. 0 < n) (sym sold) (a .quantity));
+      buyers = some-entries (entries-held (trade s (final first others) .buyer)) (subst (λ n. 0 < n) (sym bought) (z .quantity)) }
 
 -- ── A completed chain ──
 

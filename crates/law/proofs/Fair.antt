@@ -2,12 +2,12 @@
 use Rattle.std.proofs.shelf.Lists.{length-append}
 use Rattle.keyed.proofs.Keys.{row-map, map-changed, length-changed, seen-put, seen-kept, each-changed, each-row, row-changed-same, row-changed-other}
 use Rattle.keyed.proofs.Lists.{mapped, none-some}
-use Rattle.keyed.proofs.Words.{Bool, true, false, cond, not, _&&_, List, [], _∷_, map, ⊎-elim, _≡_, refl, sym, ap, subst, _∙_, ℕ, _+_, eqb, length, drop, take-at, cases-eq, cases-bool, eqb-true, false≢true, Option, Some, None, Ok}
+use Rattle.keyed.proofs.Words.{Bool, true, false, cond, not, _&&_, List, [], _∷_, map, ⊎-elim, _≡_, refl, sym, ap, subst, _∙_, ℕ, _+_, eqb, length, cases-eq, cases-bool, eqb-true, false≢true, Option, Some, None, Ok}
 use Rattle.book.specs.Entries.{kept-entry}
 use Rattle.book.specs.Numbering.{all-numbered, numbering, with-numbers, new-pairs}
 use Rattle.book.specs.Runs.{History}
 use Rattle.book.specs.State.{State, trade, at-trade}
-use Rattle.law.proofs.Subject.{Answer, Entry, Pair, Side, Buyer, Seller, Terms, or-else, is-some, Each, Table, find, changed, changed-in, Listed, Request, held, is-empty, filled, confirmed, confirmed-if, total, entries-held, number, allocation, at-side, no-trade, numbered, Allocation, AllocationState, KeptEntry, Trade}
+use Rattle.law.proofs.Subject.{Answer, Entry, Pair, Side, Buyer, Seller, Terms, or-else, is-some, Each, Table, find, changed, changed-in, Listed, Request, held, is-empty, total, entries-held, number, allocation, at-side, no-trade, numbered, Allocation, AllocationState, KeptEntry, Trade}
 use Rattle.law.specs.Law.{Agrees, Sides, Entitled-by, as-plain}
 use Rattle.law.specs.Plain.{PlainTrade, Plain, plain, plain-number, put, side-now, Touch, touch, is-side, Filling, last-filling, filling-entries, terms-in, terms-of, leaves, touched}
 
@@ -207,13 +207,6 @@ terms-known p s a n =
     go (Some t) = refl
 
 -- ── Filled and confirmed sides ──
-
-pub held-filled : (now : Bool) (es : List KeptEntry) (tie : ℕ) (d : Allocation) → held (confirmed-if now (filled es tie d)) ≡ es
-held-filled true es tie d = take-at es (drop (length es) (d .entries)) (length es) refl
-held-filled false es tie d = take-at es (drop (length es) (d .entries)) (length es) refl
-
-pub held-confirmed : (d : Allocation) → is-empty (d .state) ≡ false → held (confirmed d) ≡ held d
-held-confirmed d e = rw e refl
 
 pub shares-kept : (r : List Listed) (es : List Entry) → map (λ (e : KeptEntry). e .entry) (map (kept-entry r) es) ≡ es
 shares-kept r [] = refl

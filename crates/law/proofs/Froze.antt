@@ -2,6 +2,7 @@
 use Rattle.keyed.proofs.Keys.{row-changed, row-entered, row-removed}
 use Rattle.keyed.proofs.Lists.{mapped}
 use Rattle.keyed.proofs.Words.{Bool, true, false, cond, List, [], _∷_, ⊎-elim, _≡_, refl, sym, ap, ap₂, subst, _∙_, ℕ, eqb, cases-eq, ne-eqb, eq-eqb, both-ways, Option, Some, None}
+use Rattle.rows.proofs.Sides.{none-leg}
 use Rattle.chains.proofs.Walk.{Not0}
 use Rattle.book.specs.State.{State, trade, intermediation}
 use Rattle.law.proofs.Accepts.{Sound, walk-in, halves-of}
@@ -89,10 +90,6 @@ pub entered-joints : (s : State) → Sound s → (x : Intermediation) → Not0 (
 entered-joints s g x z none w m h =
     ap (or-else no-intermediation) (row-entered id x (s .intermediations .rows) (allocation w (trade s m) .tie) none ∙ ap (λ b. cond b (Some x) (find id (allocation w (trade s m) .tie) (s .intermediations .rows))) (ne-eqb (allocation w (trade s m) .tie) (x .id) other))
   where
-    none-leg : (w : Side) → leg w no-intermediation ≡ 0
-    none-leg Buyer = refl
-    none-leg Seller = refl
-
     other : allocation w (trade s m) .tie ≡ x .id → ⊥
     other e =
         let own : leg w (intermediation s (allocation w (trade s m) .tie)) ≡ m = halves-of s g w .back m (λ y. z (sym e ∙ y)) in

@@ -1,17 +1,18 @@
 -- Requests for an intermediation, and a cancellation.
 use Rattle.keyed.proofs.Keys.{seen-kept, each-changed, map-changed, length-changed}
 use Rattle.keyed.proofs.Lists.{some-of, none-some}
-use Rattle.keyed.proofs.Words.{Bool, true, false, cond, _&&_, _||_, List, [], _∷_, map, ⊎-elim, _≡_, refl, sym, ap, ap₂, subst, _∙_, ℕ, _<_, zero, arith, eqb, cases-bool, and-parts, and-from, false≢true, Option, Some, None}
+use Rattle.keyed.proofs.Words.{Bool, true, false, cond, _&&_, _||_, List, [], _∷_, map, ⊎-elim, _≡_, refl, sym, ap, ap₂, subst, _∙_, ℕ, _<_, zero, arith, eqb, cases-bool, and-parts, and-from, Option, Some, None}
+use Rattle.rows.proofs.Sides.{held-filled, filled-state, same-kinds}
 use Rattle.book.specs.Effects.{excluded, cancelled, placed, called-off, marked}
 use Rattle.book.specs.Entries.{whole-entry, kept-entry, shown, no-account, intermediated}
 use Rattle.book.specs.Numbering.{reply}
 use Rattle.book.specs.State.{State, trade, intermediation, at-trade}
-use Rattle.law.proofs.Fair.{found, Adds, Sided, Fair, plain-number-is, by, by-number, there-left, terms-left, terms-known, held-filled}
+use Rattle.law.proofs.Fair.{found, Adds, Sided, Fair, plain-number-is, by, by-number, there-left, terms-left, terms-known}
 use Rattle.law.proofs.Legs.{none-left, fair-o, on-leg, confirm-leg, fill-leg, enter-joint, gone-if, holds-if, clear, excluded-fair, excluded-zero, excluded-joints, cancelled-fair}
-use Rattle.law.proofs.OneTrade.{next, filled-state}
+use Rattle.law.proofs.OneTrade.{next}
 use Rattle.law.proofs.Passed.{Confirms-both, Intermediates, Stands, calling-is}
 use Rattle.law.proofs.Picks.{those-same, any-same, picks, picked-gone, picked-any, passes-if, one-gone, one-any, names-picks}
-use Rattle.law.proofs.Subject.{Answer, Written, Marked, Entry, Intermediation, Kind, Selic, Deposited, Registered, Side, Buyer, Seller, Terms, or-else, is-some, those, any, find, changed, removed, rises-above, Listed, account-in, tied-in, Cancellation, IntermediationCall, NewIntermediation, Cancel, Intermediate, ConfirmIntermediation, ExcludeIntermediation, active, suits, same-kind, held, is-empty, confirmed, total, no-intermediation, id, leg, has-leg, number, allocation, party, no-trade, both-confirmed, Allocation, Empty, Confirmed, KeptEntry, Trade}
+use Rattle.law.proofs.Subject.{Answer, Written, Marked, Entry, Intermediation, Side, Buyer, Seller, Terms, or-else, is-some, those, any, find, changed, removed, rises-above, Listed, account-in, tied-in, Cancellation, IntermediationCall, NewIntermediation, Cancel, Intermediate, ConfirmIntermediation, ExcludeIntermediation, active, suits, held, is-empty, confirmed, total, no-intermediation, id, leg, has-leg, number, allocation, party, no-trade, both-confirmed, Allocation, Empty, Confirmed, KeptEntry, Trade}
 use Rattle.law.specs.Law.{as-plain, Chains}
 use Rattle.law.specs.Plain.{touched, Plain, plain-number, side-now, sides-of-now, all-gone, names, fed, filled-as, holds-side, Filling, terms-in, empties, fills, leaves}
 
@@ -56,17 +57,6 @@ cleared-twice : (a b c : Bool) (o : Option Filling) → cond a None (cond b None
 cleared-twice true b c o = refl
 cleared-twice false true c o = refl
 cleared-twice false false c o = refl
-
-kind-same : (a b : Kind) → same-kind a b ≡ true → a ≡ b
-kind-same Selic Selic e = refl
-kind-same Selic Deposited e = absurd (false≢true e)
-kind-same Selic Registered e = absurd (false≢true e)
-kind-same Deposited Selic e = absurd (false≢true e)
-kind-same Deposited Deposited e = refl
-kind-same Deposited Registered e = absurd (false≢true e)
-kind-same Registered Selic e = absurd (false≢true e)
-kind-same Registered Deposited e = absurd (false≢true e)
-kind-same Registered Registered e = refl
 
 module _ (p : Plain) (o : Side → ℕ → Option Filling) (r : List Listed) (s : State) (f : Fair p o s) (zero : find number 0 (s .trades .rows) ≡ None) where
   pub confirm-joint-fair : (q : IntermediationCall) (a : Answer) → Confirms-both r s q
@@ -173,7 +163,7 @@ module _ (p : Plain) (o : Side → ℕ → Option Filling) (r : List Listed) (s 
     suited-leg t Seller e =
         ⊎-elim (λ (i : has-leg Buyer (q .intermediation) ≡ true).
           let like = t .alike-legs (and-from _ _ i e) in
-          let kind = kind-same (trade s (q .intermediation .bought) .terms .kind) (trade s (q .intermediation .sold) .terms .kind) (and-parts _ _ (and-parts _ _ (and-parts _ _ like .0) .0) .0) in
+          let kind = same-kinds (trade s (q .intermediation .bought) .terms .kind) (trade s (q .intermediation .sold) .terms .kind) (and-parts _ _ (and-parts _ _ (and-parts _ _ like .0) .0) .0) in
           subst (λ k. suits k (shown r (q .intermediation .account)) ≡ true) kind
             (subst (λ b. suits (trade s (cond b (q .intermediation .bought) (q .intermediation .sold)) .terms .kind) (shown r (q .intermediation .account)) ≡ true) i (t .suited)))
         (λ (i : has-leg Buyer (q .intermediation) ≡ false). subst (λ b. suits (trade s (cond b (q .intermediation .bought) (q .intermediation .sold)) .terms .kind) (shown r (q .intermediation .account)) ≡ true) i (t .suited))

@@ -2,13 +2,14 @@
 use Rattle.std.proofs.shelf.Tests.{true≢false}
 use Rattle.keyed.proofs.Keys.{row-entered, each-entered, length-entered, map-entered}
 use Rattle.keyed.proofs.Lists.{none-by, some-of, none-some}
-use Rattle.keyed.proofs.Words.{Bool, true, false, cond, _&&_, List, [], map, ⊎-elim, _≡_, refl, sym, ap, subst, subst₂, _∙_, ℕ, _+_, eqb, cases-eq, eqb-true, ne-eqb, eq-eqb, and-parts, Option, Some, None}
+use Rattle.keyed.proofs.Words.{false, cond, _&&_, List, [], map, ⊎-elim, _≡_, refl, sym, ap, subst, subst₂, _∙_, ℕ, _+_, eqb, cases-eq, eqb-true, ne-eqb, eq-eqb, and-parts, Option, Some, None}
+use Rattle.rows.proofs.Sides.{held-filled, held-confirmed, filled-state}
 use Rattle.book.specs.Effects.{placed}
 use Rattle.book.specs.Entries.{kept-entry, entries-of, included}
 use Rattle.book.specs.State.{State, trade}
-use Rattle.law.proofs.Fair.{held-in, Adds, Sided, sided-if, Fair, plain-number-is, held-put, held-kept, adds-at, agrees-at, terms-known, held-filled, held-confirmed, shares-kept, same-side}
+use Rattle.law.proofs.Fair.{held-in, Adds, Sided, sided-if, Fair, plain-number-is, held-put, held-kept, adds-at, agrees-at, terms-known, shares-kept, same-side}
 use Rattle.law.proofs.Passed.{Captures, Confirms, Includes}
-use Rattle.law.proofs.Subject.{Answer, Side, Buyer, Seller, Terms, or-else, Each, find, entered, Listed, Closing, Inclusion, NewTrade, Request, Capture, Include, Remove, Confirm, Close, SideCall, held, is-empty, filled, emptied, confirmed, confirmed-if, total, number, allocation, no-trade, captured, Allocation, Empty, Confirmed, KeptEntry, Trade}
+use Rattle.law.proofs.Subject.{Answer, Side, Buyer, Seller, Terms, or-else, Each, find, entered, Listed, Closing, Inclusion, NewTrade, Request, Capture, Include, Remove, Confirm, Close, SideCall, held, is-empty, emptied, confirmed, total, number, allocation, no-trade, captured, Allocation, Empty, Confirmed, KeptEntry, Trade}
 use Rattle.law.specs.Law.{Entitled, as-plain}
 use Rattle.law.specs.Plain.{touched, Plain, fed, plain-number, filled-as, touch, is-side, Filling, terms-in, empties, fills}
 
@@ -39,10 +40,6 @@ entered-holds ts t e w n =
       ∙ ap (λ o. held (allocation w (or-else no-trade o))) (sym (row-entered number (captured t) ts n e ∙ ap (λ b. cond b (Some (captured t)) (find number n ts)) (eq-eqb _ _ (sym i)))))
     (λ (i : t .number ≡ n → ⊥). ap (λ o. held (allocation w (or-else no-trade o))) (sym (row-entered number (captured t) ts n e ∙ ap (λ b. cond b (Some (captured t)) (find number n ts)) (ne-eqb _ _ (λ y. i (sym y))))))
     (cases-eq (t .number) n)
-
-pub filled-state : (now : Bool) (es : List KeptEntry) (tie : ℕ) (d : Allocation) → confirmed-if now (filled es tie d) .state ≡ filled-as now
-filled-state true es tie d = refl
-filled-state false es tie d = refl
 
 module _ (p : Plain) (o : Side → ℕ → Option Filling) (r : List Listed) (s : State) (f : Fair p o s) where
   pub capture-fair : (q : NewTrade) (a : Answer) → Captures s q → Fair (fed p (Capture q) a) (next p o r (Capture q) a) (placed r s (Capture q))

@@ -1,7 +1,8 @@
 -- An accepted request leaves what is numbered, and numbers nothing before it completes a chain.
 use Rattle.keyed.proofs.Keys.{row-entered, below-absent}
-use Rattle.keyed.proofs.Lists.{none-by, none-some}
+use Rattle.keyed.proofs.Lists.{none-by, none-some, some-same}
 use Rattle.keyed.proofs.Words.{Bool, true, false, cond, List, ⊎-elim, _≡_, refl, sym, ap, subst, _∙_, ℕ, arith, eqb, cond-both, cases-eq, ne-eqb, eq-eqb, both-ways, false≢true, Option, Some, None}
+use Rattle.rows.proofs.Sides.{side-number, side-state}
 use Rattle.chains.proofs.Walk.{Not0}
 use Rattle.chains.proofs.Walks.{put-cases}
 use Rattle.book.specs.Effects.{excluded, cancelled, placed, called-off, excluded-by, marked}
@@ -18,14 +19,6 @@ use Rattle.law.proofs.Shown.{view}
 use Rattle.law.proofs.Subject.{Intermediation, Side, Buyer, Seller, or-else, is-some, find, changed, Listed, IntermediationCall, NewIntermediation, Request, Capture, Cancel, Include, Remove, Confirm, Intermediate, ConfirmIntermediation, ExcludeIntermediation, Close, is-confirmed, emptied, confirmed, id, no-intermediation, any-leg, number, allocation, is-numbered, no-trade, at-side, captured, both-confirmed, Allocation, Trade}
 use Rattle.law.proofs.Views.{View, exclude, Sound as Seen}
 use Rattle.law.specs.Plain.{closes}
-
-at-number : (w : Side) (d : Allocation → Allocation) (t : Trade) → number (at-side w d t) ≡ number t
-at-number Buyer d t = refl
-at-number Seller d t = refl
-
-at-state : (w : Side) (d : Allocation → Allocation) (t : Trade) → is-numbered (at-side w d t .state) ≡ true → is-numbered (t .state) ≡ true
-at-state Buyer d t h = h
-at-state Seller d t h = h
 
 pub record Leaves (s t : State) : Type 0 where
   pub frozen : Frozen s t
@@ -58,8 +51,8 @@ excluded-leaves s g i nb ns = go (find id i (s .intermediations .rows)) refl
 module _ (s : State) (g : Sound s) where
   side-leaves : (w : Side) (n : ℕ) (d : Allocation → Allocation) → view s .num n ≡ false → Leaves s (at-trade n (at-side w d) s)
   side-leaves w n d nn = record {
-    frozen = record { parts = changed-froze (view s .num) n (at-side w d) (s .trades .rows) (at-number w d) nn; intermediations = λ v m h. refl };
-    fewer = changed-fewer n (at-side w d) (s .trades .rows) (at-number w d) (at-state w d) }
+    frozen = record { parts = changed-froze (view s .num) n (at-side w d) (s .trades .rows) (side-number w d) nn; intermediations = λ v m h. refl };
+    fewer = changed-fewer n (at-side w d) (s .trades .rows) (side-number w d) (λ t h. ap is-numbered (sym (side-state w d t)) ∙ h) }
 
   open-side : (n : ℕ) (w : Side) → is-confirmed (allocation w (trade s n) .state) ≡ false → view s .num n ≡ false
   open-side n Buyer u = num-buyer (view s) (g .seen) n (λ _. u)
@@ -156,9 +149,6 @@ module _ (s : State) (g : Sound s) where
   placed-leaves r (ExcludeIntermediation q) c p = let o = exclude-open s g q (p .tables) (p .own) in excluded-leaves s g (q .id) (o .0) (o .1)
   placed-leaves r (Close q) c p = absurd (false≢true (sym c))
 
-  some-is : (x y : ℕ) → Some x ≡ Some y → x ≡ y
-  some-is x y e = ap (or-else 0) e
-
   any-open : (x : Intermediation) → view s .num (x .bought) ≡ false → view s .num (x .sold) ≡ false → view s .num (any-leg x) ≡ false
   any-open x a b = ⊎-elim (λ (e : x .bought ≡ 0). ap (view s .num) (sym (any-leg-is x) ∙ leg-right (x .bought) (x .sold) e) ∙ b)
       (λ (e : Not0 (x .bought)). ap (view s .num) (sym (any-leg-is x) ∙ leg-left (x .bought) (x .sold) e) ∙ a) (cases-eq (x .bought) 0)
@@ -171,18 +161,18 @@ module _ (s : State) (g : Sound s) where
       go (q .now) (open-side s g (q .trade) (q .side) (p .own .free .unsure)) e
     where
       go : (b : Bool) → view s .num (q .trade) ≡ false → cond b (Some (q .trade)) None ≡ Some n → view s .num n ≡ false
-      go true o d = ap (view s .num) (sym (some-is (q .trade) n d)) ∙ o
+      go true o d = ap (view s .num) (sym (some-same (q .trade) n d)) ∙ o
       go false o d = absurd (none-some n d)
   open-before r (Remove q) p n e = absurd (none-some n e)
   open-before r (Confirm q) p n e =
-      ap (view s .num) (sym (some-is (q .trade) n e)) ∙ open-side s g (q .trade) (q .side) (p .own .free .unsure)
+      ap (view s .num) (sym (some-same (q .trade) n e)) ∙ open-side s g (q .trade) (q .side) (p .own .free .unsure)
   open-before r (Intermediate q) p n e = go (q .now) (let o = join-open s g r q (p .own) in any-open (q .intermediation) (o .0) (o .1)) e
     where
       go : (b : Bool) → view s .num (any-leg (q .intermediation)) ≡ false → cond b (Some (any-leg (q .intermediation))) None ≡ Some n → view s .num n ≡ false
-      go true o d = ap (view s .num) (sym (some-is (any-leg (q .intermediation)) n d)) ∙ o
+      go true o d = ap (view s .num) (sym (some-same (any-leg (q .intermediation)) n d)) ∙ o
       go false o d = absurd (none-some n d)
   open-before r (ConfirmIntermediation q) p n e =
       let o = confirm-joint-open s g r q (p .own) in
-      ap (view s .num) (sym (some-is (any-leg (intermediation s (q .id))) n e)) ∙ any-open (intermediation s (q .id)) (o .0) (o .1)
+      ap (view s .num) (sym (some-same (any-leg (intermediation s (q .id))) n e)) ∙ any-open (intermediation s (q .id)) (o .0) (o .1)
   open-before r (ExcludeIntermediation q) p n e = absurd (none-some n e)
   open-before r (Close q) p n e = absurd (none-some n e)

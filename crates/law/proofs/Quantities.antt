@@ -1,16 +1,18 @@
 -- The entries that a confirming request leaves are positive. Assumes nothing.
-use mathlib.Core.Bool.{false≢true}
 use Rattle.fields.specs.Ranges.{entry-counts}
-use Rattle.keyed.proofs.Words.{Bool, true, false, cond, _&&_, _||_, List, [], _∷_, map, inl, inr, _≡_, refl, sym, ap, subst, _∙_, ℕ, _<_, arith, eqb, length, take, drop, take-at, and-parts, or-cases, Some}
+use Rattle.keyed.proofs.Keys.{row-found}
+use Rattle.keyed.proofs.Words.{Bool, true, false, cond, _&&_, _||_, List, [], _∷_, map, inl, inr, _≡_, refl, sym, ap, subst, _∙_, ℕ, _<_, arith, eqb, take, and-parts, or-cases, Some}
+use Rattle.rows.proofs.Sides.{held-confirmed, held-filled}
 use Rattle.rows.specs.InUse.{good-entry, good-allocation, good-terms}
 use Rattle.chains.proofs.Matches.{Positive}
 use Rattle.book.specs.Effects.{filled-leg, placed}
 use Rattle.book.specs.Entries.{whole-entry, kept-entry, entries-of}
 use Rattle.book.specs.Numbering.{confirms-in}
 use Rattle.book.specs.State.{State, trade, intermediation}
-use Rattle.law.proofs.ChainRows.{found-key, part-changed}
+use Rattle.law.proofs.ChainRows.{part-changed}
+use Rattle.law.proofs.Fair.{shares-kept}
 use Rattle.law.proofs.Passed.{Passed, Tables, at-least, leg-is-there}
-use Rattle.law.proofs.Subject.{in-range, numbers-or-none, accounts, numbers, quantities, Entry, Side, Buyer, Seller, or-else, all, Each, find, changed, Listed, Request, Capture, Cancel, Include, Remove, Confirm, Intermediate, ConfirmIntermediation, ExcludeIntermediation, Close, held, is-empty, confirmed, confirmed-if, filled, entries-held, good-trade, id, leg, number, allocation, at-side, no-trade, Allocation, KeptEntry, Trade}
+use Rattle.law.proofs.Subject.{in-range, numbers-or-none, numbers, quantities, Side, Buyer, Seller, or-else, all, Each, find, changed, Listed, Request, Capture, Cancel, Include, Remove, Confirm, Intermediate, ConfirmIntermediation, ExcludeIntermediation, Close, held, is-empty, confirmed, confirmed-if, filled, entries-held, good-trade, id, leg, number, allocation, at-side, no-trade, Allocation, KeptEntry, Trade}
 
 -- ── A trade with positive entries ──
 
@@ -20,22 +22,11 @@ pub record Sound-trade (t : Trade) : Type 0 where
   pub buyer : Positive (entries-held (t .buyer))
   pub seller : Positive (entries-held (t .seller))
 
-first-third : (a b c d e f g h : Bool) → (a && b && c && d && e && f && g && h) ≡ true → (a ≡ true) × (c ≡ true)
-first-third true true true d e f g h p = (refl, refl)
-first-third true true false d e f g h p = absurd (false≢true p)
-first-third true false c d e f g h p = absurd (false≢true p)
-first-third false b c d e f g h p = absurd (false≢true p)
-
-middle : (a b c : Bool) → (a && b && c) ≡ true → b ≡ true
-middle true true c p = refl
-middle true false c p = absurd (false≢true p)
-middle false b c p = absurd (false≢true p)
-
 good-positive : (es : List KeptEntry) → all (λ e. good-entry (e .entry)) es ≡ true → Positive (map (λ e. e .entry) es)
 good-positive [] h = tt
 good-positive (e ∷ es) h =
     let both = and-parts (good-entry (e .entry)) (all (λ x. good-entry (x .entry)) es) h in
-    (at-least quantities (e .entry .quantity) (middle (in-range accounts (e .entry .account)) (in-range quantities (e .entry .quantity)) (in-range numbers-or-none (e .entry .client)) (both .0)),
+    (at-least quantities (e .entry .quantity) (and-parts _ _ (and-parts _ _ (both .0) .0) .1),
       good-positive es (both .1))
 
 held-empty : (d : Allocation) → is-empty (d .state) ≡ true → held d ≡ []
@@ -52,9 +43,11 @@ pub good-sound : (t : Trade) → good-trade t ≡ true → Sound-trade t
 good-sound t h =
     let two = and-parts (good-terms (t .terms) && good-allocation (t .buyer)) (good-allocation (t .seller)) h in
     let one = and-parts (good-terms (t .terms)) (good-allocation (t .buyer)) (two .0) in
-    let terms = first-third _ _ _ _ _ _ _ _ (one .0) in
+    let f = and-parts _ _ (and-parts _ _ (one .0) .0) .0 in
+    let d = and-parts _ _ (and-parts _ _ f .0) .0 in
+    let c = and-parts _ _ (and-parts _ _ d .0) in
     record {
-      numbered = at-least numbers (number t) (terms .0); quantity = at-least quantities (t .terms .quantity) (terms .1);
+      numbered = at-least numbers (number t) (and-parts _ _ (c .0) .0); quantity = at-least quantities (t .terms .quantity) (c .1);
       buyer = side-positive (t .buyer) (one .1); seller = side-positive (t .seller) (two .1) }
 
 all-each : (ts : List Trade) → all good-trade ts ≡ true → Each Sound-trade ts
@@ -80,24 +73,13 @@ pub sound-side : (w : Side) (f : Allocation → Allocation) (t : Trade) → (Pos
 sound-side Buyer f t k h = record { numbered = h .numbered; quantity = h .quantity; buyer = k (h .buyer); seller = h .seller }
 sound-side Seller f t k h = record { numbered = h .numbered; quantity = h .quantity; buyer = h .buyer; seller = k (h .seller) }
 
-filled-held : (z : Bool) (es : List KeptEntry) (tie : ℕ) (d : Allocation) → held (confirmed-if z (filled es tie d)) ≡ es
-filled-held true es tie d = take-at es (drop (length es) (d .entries)) (length es) refl
-filled-held false es tie d = take-at es (drop (length es) (d .entries)) (length es) refl
-
 pub filled-positive : (z : Bool) (es : List KeptEntry) (tie : ℕ) (d : Allocation) → Positive (map (λ e. e .entry) es) → Positive (entries-held (confirmed-if z (filled es tie d)))
-filled-positive z es tie d h = subst (λ l. Positive (map (λ e. e .entry) l)) (sym (filled-held z es tie d)) h
-
-confirmed-held : (d : Allocation) → is-empty (d .state) ≡ false → held (confirmed d) ≡ held d
-confirmed-held d h = sym (ap (λ z. cond z [] (take (d .count) (d .entries))) h)
+filled-positive z es tie d h = subst (λ l. Positive (map (λ e. e .entry) l)) (sym (held-filled z es tie d)) h
 
 pub confirmed-positive : (d : Allocation) → is-empty (d .state) ≡ false → Positive (entries-held d) → Positive (entries-held (confirmed d))
-confirmed-positive d e h = subst (λ l. Positive (map (λ x. x .entry) l)) (sym (confirmed-held d e)) h
+confirmed-positive d e h = subst (λ l. Positive (map (λ x. x .entry) l)) (sym (held-confirmed d e)) h
 
 -- ── The requests that confirm ──
-
-entries-shares : (r : List Listed) (es : List Entry) → map (λ e. e .entry) (map (kept-entry r) es) ≡ es
-entries-shares r [] = refl
-entries-shares r (e ∷ es) = ap (λ l. e ∷ l) (entries-shares r es)
 
 -- what a request that may complete a chain places is sound
 pub placed-sound : (r : List Listed) (s : State) (q : Request) (m : ℕ) → Passed r s q → confirms-in s q ≡ Some m → Each Sound-trade (placed r s q .trades .rows)
@@ -108,7 +90,7 @@ placed-sound r s (Include q) m e c =
     let es : List KeptEntry = map (kept-entry r) (entries-of q) in
     let f : Allocation → Allocation = λ d. confirmed-if (q .now) (filled es 0 d) in
     each-changed Sound-trade (at-side (q .side) f) (q .trade) (s .trades .rows)
-    (λ t _ h. sound-side (q .side) f t (λ _. filled-positive (q .now) es 0 (allocation (q .side) t) (subst Positive (sym (entries-shares r (entries-of q))) (e .own .positive))) h)
+    (λ t _ h. sound-side (q .side) f t (λ _. filled-positive (q .now) es 0 (allocation (q .side) t) (subst Positive (sym (shares-kept r (entries-of q))) (e .own .positive))) h)
     (whole-sound s (e .tables))
 placed-sound r s (Remove q) m e c = let z : _≡_ {A = ℕ} 0 1 = cc in absurd (omega arith)
 placed-sound r s (Confirm q) m e c =
@@ -128,13 +110,13 @@ placed-sound r s (Intermediate q) m e c =
 placed-sound r s (ConfirmIntermediation q) m e c =
     each-changed Sound-trade (at-side Seller confirmed) (intermediation s (q .id) .sold) once
     (λ t found h.
-      let key : number t ≡ intermediation s (q .id) .sold = found-key (intermediation s (q .id) .sold) once t found in
+      let key : number t ≡ intermediation s (q .id) .sold = row-found number (intermediation s (q .id) .sold) once t found .1 in
       let full = e .own .holds Seller (leg-is-there Seller (intermediation s (q .id)) (λ z. absurd (omega (arith, h .numbered, key, z)))) in
       let same = part-changed (λ u. is-empty (u .seller .state)) (at-side Buyer confirmed) (λ u. refl) (λ u. refl) (intermediation s (q .id) .bought) (intermediation s (q .id) .sold) (s .trades .rows) in
       sound-side Seller confirmed t (confirmed-positive (t .seller) (sym (ap (λ o. is-empty (or-else no-trade o .seller .state)) found) ∙ same ∙ full)) h)
     (each-changed Sound-trade (at-side Buyer confirmed) (intermediation s (q .id) .bought) (s .trades .rows)
       (λ t found h.
-        let key : number t ≡ intermediation s (q .id) .bought = found-key (intermediation s (q .id) .bought) (s .trades .rows) t found in
+        let key : number t ≡ intermediation s (q .id) .bought = row-found number (intermediation s (q .id) .bought) (s .trades .rows) t found .1 in
         let full = e .own .holds Buyer (leg-is-there Buyer (intermediation s (q .id)) (λ z. absurd (omega (arith, h .numbered, key, z)))) in
         sound-side Buyer confirmed t (confirmed-positive (t .buyer) (sym (ap (λ o. is-empty (or-else no-trade o .buyer .state)) found) ∙ full)) h)
       (whole-sound s (e .tables)))

@@ -1,6 +1,7 @@
 -- Every request keeps the pairs lawful.
 use Rattle.keyed.proofs.Lists.{none-some}
-use Rattle.keyed.proofs.Words.{true, false, _&&_, List, [], _∷_, _++_, map, _⊎_, inl, inr, ⊎-elim, _≡_, refl, sym, ap, ap₂, subst, _∙_, ℕ, _≤_, _<_, arith, eqb, length, cases-eq, ne-eqb, eq-eqb, both-ways, and-parts, false≢true, Some}
+use Rattle.keyed.proofs.Words.{true, false, _&&_, List, [], _∷_, _++_, map, _⊎_, inl, inr, ⊎-elim, _≡_, refl, sym, ap, ap₂, subst, _∙_, ℕ, _≤_, _<_, eqb, length, cases-eq, ne-eqb, eq-eqb, both-ways, and-parts, Some}
+use Rattle.rows.proofs.Sides.{confirmed-filled, some-entries}
 use Rattle.chains.proofs.Matches.{all-name}
 use Rattle.chains.proofs.Ties.{first-is}
 use Rattle.chains.proofs.Walk.{Not0, far, joined}
@@ -26,28 +27,19 @@ use Rattle.law.proofs.Passed.{Enough, Passed}
 use Rattle.law.proofs.Placed.{Leaves}
 use Rattle.law.proofs.Quantities.{Sound-trade}
 use Rattle.law.proofs.Shown.{tr, ends, view}
-use Rattle.law.proofs.Subject.{numbers, Entry, Pair, Side, Buyer, Seller, is-some, those, Each, Table, find, Listed, Request, Capture, Cancel, Include, Remove, Confirm, Intermediate, ConfirmIntermediation, ExcludeIntermediation, Close, is-empty, is-confirmed, total, entries-held, number, numbered, AllocationState, Empty, Allocated, Confirmed, Trade}
+use Rattle.law.proofs.Subject.{numbers, Pair, Side, Buyer, Seller, is-some, those, Each, Table, find, Listed, Request, Capture, Cancel, Include, Remove, Confirm, Intermediate, ConfirmIntermediation, ExcludeIntermediation, Close, is-confirmed, total, entries-held, number, numbered, Trade}
 use Rattle.law.proofs.Views.{View, next, prev, first, whole-chain, numbered as numbered-view}
 use Rattle.law.specs.Law.{Sides, Pairs, final, pairs-of}
 
 -- ── The ends hold something ──
 
-not-empty : (x : AllocationState) → is-confirmed x ≡ true → is-empty x ≡ false
-not-empty Empty h = absurd (false≢true h)
-not-empty Allocated h = refl
-not-empty Confirmed h = refl
-
-some-shares : (es : List Entry) → 0 < total es → 0 < length es
-some-shares [] h = absurd (omega arith)
-some-shares (e ∷ es) h = omega arith
-
 pub ends-hold : (p : State) → Each Sound-trade (p .trades .rows) → ((w : Side) → Each (Adds w) (p .trades .rows)) → Ends-hold p
 ends-hold p sound adds m z c =
     let q = and-parts (is-confirmed (trade p m .buyer .state)) (is-confirmed (trade p m .seller .state)) c in
     let worth : 0 < trade p m .terms .quantity = at-confirmed Sound-trade p m sound c .quantity in
-    let sold : total (entries-held (trade p m .seller)) ≡ trade p m .terms .quantity = at-confirmed (Adds Seller) p m (adds Seller) c (not-empty (trade p m .seller .state) (q .1)) in
-    let bought : total (entries-held (trade p m .buyer)) ≡ trade p m .terms .quantity = at-confirmed (Adds Buyer) p m (adds Buyer) c (not-empty (trade p m .buyer .state) (q .0)) in
-    (some-shares (entries-held (trade p m .seller)) (subst (λ k. 0 < k) (sym sold) worth), some-shares (entries-held (trade p m .buyer)) (subst (λ k. 0 < k) (sym bought) worth))
+    let sold : total (entries-held (trade p m .seller)) ≡ trade p m .terms .quantity = at-confirmed (Adds Seller) p m (adds Seller) c (confirmed-filled (trade p m .seller .state) (q .1)) in
+    let bought : total (entries-held (trade p m .buyer)) ≡ trade p m .terms .quantity = at-confirmed (Adds Buyer) p m (adds Buyer) c (confirmed-filled (trade p m .buyer .state) (q .0)) in
+    (some-entries (entries-held (trade p m .seller)) (subst (λ k. 0 < k) (sym sold) worth), some-entries (entries-held (trade p m .buyer)) (subst (λ k. 0 < k) (sym bought) worth))
 
 -- ── A request that may complete a chain has numbers enough ──
 
