@@ -1,6 +1,6 @@
 -- What each change of the tables shows by number.
 use Rattle.keyed.proofs.Keys.{row-entered, row-removed, still-there}
-use Rattle.keyed.proofs.Words.{Bool, true, false, List, ⊎-elim, _≡_, refl, sym, ap, _∙_, ℕ, cases-eq, ne-eqb, eq-eqb, None}
+use Rattle.keyed.proofs.Words.{Bool, true, false, List, ⊎-elim, _≡_, refl, sym, ap, _∙_, ℕ, cases-eq, ne-eqb, eq-eqb, None, fun-ext}
 use Rattle.rows.specs.Trades.{in-state, captured as captured-row}
 use Rattle.rows.specs.declared.row.Allocation.{Allocation as Half-row}
 use Rattle.chains.proofs.Puts.{put-same}
@@ -8,9 +8,9 @@ use Rattle.chains.proofs.Ties.{put-on}
 use Rattle.chains.proofs.Walk.{put, Not0, Walk, far, joined}
 use Rattle.chains.proofs.Walks.{put-cases, put-off, far-next, far-far, member}
 use Rattle.book.specs.Effects.{cancelled}
-use Rattle.law.proofs.Shown.{common, tr, jo, shows, same-view, Here, None0, left, made, Only, buyer-view, seller-view, both-view}
+use Rattle.law.proofs.Shown.{common, tr, jo, shows, same-view, Here, None0, left, made, Only, buyer-view, seller-view, both-view, same-sides}
 use Rattle.law.proofs.Subject.{Intermediation, Pair, Side, Buyer, Seller, Terms, or-else, is-some, find, changed, entered, removed, rises-above, emptied, id, no-intermediation, number, allocation, is-cancelled, is-numbered, no-trade, at-side, numbered, AllocationState, Empty, Trade}
-use Rattle.law.proofs.Views.{View, next, prev, sides, link, captured, voided, exclude}
+use Rattle.law.proofs.Views.{View, next, prev, sides, link, captured, voided, exclude, re-numbered, with-sides, with-ties}
 
 -- the two legs that a side is
 abbrev pub as-bought : ℕ → Side → ℕ
@@ -31,34 +31,10 @@ pub side-view : (w : Side) (n : ℕ) (d : Half-row → Half-row) (ts : List Trad
     → shows (changed number n (at-side w d) ts) xs ps ≡ sides (as-bought n w) (as-sold n w) x (shows ts xs ps)
 side-view Buyer n d ts xs ps h z x ex ei =
     buyer-view n (at-side Buyer d) ts xs ps (only-side Buyer (λ _. d)) h z x ex (tr ts n .buyer .tie) ei
-    ∙ same-view _ _ (record {
-      present = λ m. refl;
-      cancelled = λ m. refl;
-      num = λ m. refl;
-      terms = λ m. refl;
-      buyer = λ m. refl;
-      seller = λ m. sym (put-off 0 x (λ k. tr ts k .seller .state) m (λ e. e));
-      buys = λ m. put-same n (tr ts n .buyer .tie) (λ k. tr ts k .buyer .tie) m (λ _. refl);
-      sells = λ m. refl;
-      bought = λ m. refl;
-      sold = λ m. refl;
-      pairs = refl;
-    })
+    ∙ same-sides (shows ts xs ps) (λ m. refl) (λ m. sym (put-off 0 x (λ k. tr ts k .seller .state) m (λ e. e))) (λ m. put-same n (tr ts n .buyer .tie) (λ k. tr ts k .buyer .tie) m (λ _. refl)) (λ m. refl)
 side-view Seller n d ts xs ps h z x ex ei =
     seller-view n (at-side Seller d) ts xs ps (only-side Seller (λ _. d)) h z x ex (tr ts n .seller .tie) ei
-    ∙ same-view _ _ (record {
-      present = λ m. refl;
-      cancelled = λ m. refl;
-      num = λ m. refl;
-      terms = λ m. refl;
-      buyer = λ m. sym (put-off 0 x (λ k. tr ts k .buyer .state) m (λ e. e));
-      seller = λ m. refl;
-      buys = λ m. refl;
-      sells = λ m. put-same n (tr ts n .seller .tie) (λ k. tr ts k .seller .tie) m (λ _. refl);
-      bought = λ m. refl;
-      sold = λ m. refl;
-      pairs = refl;
-    })
+    ∙ same-sides (shows ts xs ps) (λ m. sym (put-off 0 x (λ k. tr ts k .buyer .state) m (λ e. e))) (λ m. refl) (λ m. refl) (λ m. put-same n (tr ts n .seller .tie) (λ k. tr ts k .seller .tie) m (λ _. refl))
 
 -- sides put twice
 pub put-again : {X : Type 0} (a : ℕ) (x y : X) (f : ℕ → X) (m : ℕ) → put a x (put a y f) m ≡ put a x f m
@@ -66,19 +42,7 @@ put-again a x y f m = put-cases (λ r. r ≡ put a x f m) a x (put a y f) m (λ 
     (λ q. put-off a y f m q ∙ sym (put-off a x f m q))
 
 pub sides-again : (a c : ℕ) (x y : AllocationState) (v : View) → sides a c x (sides a c y v) ≡ sides a c x v
-sides-again a c x y v = same-view _ _ (record {
-  present = λ m. refl;
-  cancelled = λ m. refl;
-  num = λ m. refl;
-  terms = λ m. refl;
-  buyer = put-again a x y (v .buyer);
-  seller = put-again c x y (v .seller);
-  buys = λ m. refl;
-  sells = λ m. refl;
-  bought = λ m. refl;
-  sold = λ m. refl;
-  pairs = refl;
-})
+sides-again a c x y v = same-sides v (put-again a x y (v .buyer)) (put-again c x y (v .seller)) (λ m. refl) (λ m. refl)
 
 -- an intermediation entered, and one removed
 pub entered-leg : (g : Intermediation → ℕ) (x : Intermediation) (xs : List Intermediation) → Not0 (x .id) → find id (x .id) xs ≡ None
@@ -95,6 +59,10 @@ removed-leg g gz n xs r z m =
     ∙ ⊎-elim (λ (e : m ≡ n). rw (eq-eqb _ _ e) (gz ∙ sym (put-on n 0 (λ k. g (jo xs k)) m e (λ y. z (sym e ∙ y)))))
     (λ (e : m ≡ n → ⊥). rw (ne-eqb _ _ e) (sym (put-off n 0 (λ k. g (jo xs k)) m (λ q. absurd (e q))))) (cases-eq m n)
 
+-- the same sides and ties, with other legs
+same-legs : (v : View) {b s : ℕ → AllocationState} {b′ s′ x x₂ y y₂ : ℕ → ℕ} → ((n : ℕ) → x n ≡ x₂ n) → ((n : ℕ) → y n ≡ y₂ n) → with-ties b′ s′ x y (with-sides b s v) ≡ with-ties b′ s′ x₂ y₂ (with-sides b s v)
+same-legs v {b} {s} {b′} {s′} ex ey = λ i. with-ties b′ s′ (fun-ext ex i) (fun-ext ey i) (with-sides b s v)
+
 pub joined-view : (x : Intermediation) (f g : Trade → Trade) (ts : List Trade) (xs : List Intermediation) (ps : List Pair)
     → Only Buyer f → Only Seller g → Here (x .bought) ts → Here (x .sold) ts → None0 ts → Not0 (x .id) → find id (x .id) xs ≡ None
     → (d : AllocationState) → ((t : Trade) → f t .buyer .state ≡ d) → ((t : Trade) → g t .seller .state ≡ d)
@@ -103,19 +71,7 @@ pub joined-view : (x : Intermediation) (f g : Trade → Trade) (ts : List Trade)
     ≡ link (x .id) (x .bought) (x .sold) (sides (x .bought) (x .sold) d (shows ts xs ps))
 joined-view x f g ts xs ps of og ha hc z i a d fx gx fi gi =
     both-view (x .bought) (x .sold) f g ts (entered id x xs) ps of og ha hc z d fx gx (x .id) fi gi
-    ∙ same-view _ _ (record {
-      present = λ m. refl;
-      cancelled = λ m. refl;
-      num = λ m. refl;
-      terms = λ m. refl;
-      buyer = λ m. refl;
-      seller = λ m. refl;
-      buys = λ m. refl;
-      sells = λ m. refl;
-      bought = entered-leg (λ y. y .bought) x xs i a;
-      sold = entered-leg (λ y. y .sold) x xs i a;
-      pairs = refl;
-    })
+    ∙ same-legs (shows ts xs ps) (entered-leg (λ y. y .bought) x xs i a) (entered-leg (λ y. y .sold) x xs i a)
 
 pub excluded-view : (n : ℕ) (ts : List Trade) (xs : List Intermediation) (ps : List Pair)
     → Here (jo xs n .bought) ts → Here (jo xs n .sold) ts → None0 ts → Not0 n → rises-above id 0 xs ≡ true
@@ -124,35 +80,13 @@ pub excluded-view : (n : ℕ) (ts : List Trade) (xs : List Intermediation) (ps :
 excluded-view n ts xs ps ha hc z i r =
     both-view (jo xs n .bought) (jo xs n .sold) (at-side Buyer emptied) (at-side Seller emptied) ts (removed id n xs) ps
     (only-side Buyer (λ _. emptied)) (only-side Seller (λ _. emptied)) ha hc z Empty (λ t. refl) (λ t. refl) 0 (λ t. refl) (λ t. refl)
-    ∙ same-view _ _ (record {
-      present = λ m. refl;
-      cancelled = λ m. refl;
-      num = λ m. refl;
-      terms = λ m. refl;
-      buyer = λ m. refl;
-      seller = λ m. refl;
-      buys = λ m. refl;
-      sells = λ m. refl;
-      bought = removed-leg (λ y. y .bought) refl n xs r i;
-      sold = removed-leg (λ y. y .sold) refl n xs r i;
-      pairs = refl;
-    })
+    ∙ same-legs (shows ts xs ps) (removed-leg (λ y. y .bought) refl n xs r i) (removed-leg (λ y. y .sold) refl n xs r i)
 
 -- an exclusion of none
 pub nothing-excluded : (n : ℕ) (v : View) → v .bought n ≡ 0 → v .sold n ≡ 0 → exclude n v ≡ v
-nothing-excluded n v b s = same-view _ _ (record {
-  present = λ m. refl;
-  cancelled = λ m. refl;
-  num = λ m. refl;
-  terms = λ m. refl;
-  buyer = λ m. put-off (v .bought n) Empty (v .buyer) m (λ e. e ∙ b);
-  seller = λ m. put-off (v .sold n) Empty (v .seller) m (λ e. e ∙ s);
-  buys = λ m. put-off (v .bought n) 0 (v .buys) m (λ e. e ∙ b);
-  sells = λ m. put-off (v .sold n) 0 (v .sells) m (λ e. e ∙ s);
-  bought = λ m. put-same n 0 (v .bought) m (λ _. sym b);
-  sold = λ m. put-same n 0 (v .sold) m (λ _. sym s);
-  pairs = refl;
-})
+nothing-excluded n v b s = λ i. with-ties (fun-ext (λ m. put-off (v .bought n) 0 (v .buys) m (λ e. e ∙ b)) i) (fun-ext (λ m. put-off (v .sold n) 0 (v .sells) m (λ e. e ∙ s)) i)
+    (fun-ext (λ m. put-same n 0 (v .bought) m (λ _. sym b)) i) (fun-ext (λ m. put-same n 0 (v .sold) m (λ _. sym s)) i)
+    (with-sides (fun-ext (λ m. put-off (v .bought n) Empty (v .buyer) m (λ e. e ∙ b)) i) (fun-ext (λ m. put-off (v .sold n) Empty (v .seller) m (λ e. e ∙ s)) i) v)
 
 pub captured-view : (t : Terms) (ts : List Trade) (xs : List Intermediation) (ps : List Pair) → Not0 (t .number) → find number (t .number) ts ≡ None
     → shows (entered number (captured-row t) ts) xs ps ≡ captured (t .number) (common t) (shows ts xs ps)
@@ -216,21 +150,6 @@ voided-view n ts xs ps h z nn zb zs = same-view _ _ (record {
 })
 
 -- trades numbered
-abbrev pub re-numbered : (ℕ → Bool) → View → View
-re-numbered b v = record {
-  present = v .present;
-  cancelled = v .cancelled;
-  num = b;
-  terms = v .terms;
-  buyer = v .buyer;
-  seller = v .seller;
-  buys = v .buys;
-  sells = v .sells;
-  bought = v .bought;
-  sold = v .sold;
-  pairs = v .pairs;
-}
-
 pub numbered-one : (n : ℕ) (ts : List Trade) (xs : List Intermediation) (ps : List Pair) → Here n ts → None0 ts → (Not0 n → is-cancelled (tr ts n .state) ≡ false)
     → shows (changed number n numbered ts) xs ps ≡ re-numbered (put n true (shows ts xs ps .num)) (shows ts xs ps)
 numbered-one n ts xs ps h z nx = same-view _ _ (record {

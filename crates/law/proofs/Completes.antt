@@ -10,13 +10,13 @@ use Rattle.chains.specs.Pairing.{matched, matches, given-numbers}
 use Rattle.chains.specs.declared.pairing.Match.{Match}
 use Rattle.book.specs.Numbering.{if-all-confirmed, chain-confirmed, chain-matches, issuer, new-pairs, all-numbered, numbering, with-numbers}
 use Rattle.book.specs.State.{State, chain-of, trade}
-use Rattle.law.proofs.Bridge.{re-numbered, numbered-one, marked}
+use Rattle.law.proofs.Bridge.{numbered-one, marked}
 use Rattle.law.proofs.Chained.{tie-at, leg-at, line, chain-is, all-line, last-line, tr-number}
 use Rattle.law.proofs.Confirms.{leg-left, leg-right, part-kept, whole-kept}
 use Rattle.law.proofs.Kept.{walk, full-none, full-parts, bought-live, sold-live}
-use Rattle.law.proofs.Shown.{tr, jo, ends, shows, view, same-view, Here, None0, here-after, none-after}
+use Rattle.law.proofs.Shown.{tr, jo, ends, shows, view, Here, None0, here-after, none-after}
 use Rattle.law.proofs.Subject.{Entry, Intermediation, Pair, Side, Buyer, Seller, or-else, is-some, all, Table, find, changed, entries-held, number, numbered, both-confirmed, Confirmed, Trade}
-use Rattle.law.proofs.Views.{View, sure, next, prev, full, full-by, first, last, whole-chain, sides, numbered as numbered-view, leg, live, Sound}
+use Rattle.law.proofs.Views.{re-numbered, View, sure, next, prev, full, full-by, first, last, whole-chain, sides, numbered as numbered-view, leg, live, Sound, with-pairs}
 
 changed-none : (n : ℕ) (f : Trade → Trade) (ts : List Trade) → find number n ts ≡ None → changed number n f ts ≡ ts
 changed-none n f [] h = refl
@@ -122,19 +122,7 @@ module _ (p : State) (half : (w : Side) → Half (tie-at (p .trades .rows) w) (l
         numbered-one h ws xs qs hh2 nw (λ y. ap (λ (v : View). v .cancelled h) e2 ∙ not-true _ (and-parts _ _ (lh y) .1))
         ∙ ap (λ (v : View). re-numbered (put h true (v .num)) v) e2 in
         ap (λ rows. shows rows xs qs) (rows-numbered f (p .trades) refl z0 hf (far-not0 (next (view p)) (prev (view p)) w n n-is))
-        ∙ e3 ∙ same-view _ _ (record {
-          present = λ m. refl;
-          cancelled = λ m. refl;
-          num = marked (next (view p)) (prev (view p)) w n (view p .num);
-          terms = λ m. refl;
-          buyer = λ m. refl;
-          seller = λ m. refl;
-          buys = λ m. refl;
-          sells = λ m. refl;
-          bought = λ m. refl;
-          sold = λ m. refl;
-          pairs = map-append ends (p .pairs .rows) new;
-        })
+        ∙ e3 ∙ (λ i. with-pairs (map-append ends (p .pairs .rows) new i) (re-numbered (fun-ext (marked (next (view p)) (prev (view p)) w n (view p .num)) i) (view p)))
 
 -- what a confirming call leaves, before anything is numbered: sides of one chain confirmed in a sound book
 pub record Confirming (p : State) (n : ℕ) : Type 0 where

@@ -6,7 +6,7 @@ use Rattle.chains.proofs.Walk.{put, Not0, Pair as Ends, pair}
 use Rattle.book.specs.Effects.{cancelled}
 use Rattle.book.specs.State.{State}
 use Rattle.law.proofs.Subject.{Intermediation, Pair, Side, Buyer, Seller, Terms, or-else, is-some, find, changed, other, id, no-intermediation, number, allocation, is-cancelled, is-numbered, no-trade, AllocationState, Trade}
-use Rattle.law.proofs.Views.{View, Common, sides}
+use Rattle.law.proofs.Views.{View, Common, sides, with-sides, with-ties}
 
 abbrev pub common : Terms → Common
 common t = record { kind = t .kind; asset = t .asset; quantity = t .quantity; settlement = t .settlement }
@@ -94,19 +94,11 @@ module _ (n : ℕ) (f : Trade → Trade) (ts : List Trade) (keeps : (t : Trade) 
 
 -- the same book with other sides
 abbrev pub re-sided : (ℕ → AllocationState) → (ℕ → AllocationState) → (ℕ → ℕ) → (ℕ → ℕ) → View → View
-re-sided b s b′ s′ v = record {
-  present = v .present;
-  cancelled = v .cancelled;
-  num = v .num;
-  terms = v .terms;
-  buyer = b;
-  seller = s;
-  buys = b′;
-  sells = s′;
-  bought = v .bought;
-  sold = v .sold;
-  pairs = v .pairs;
-}
+re-sided b s b′ s′ v = with-ties b′ s′ (v .bought) (v .sold) (with-sides b s v)
+
+pub same-sides : (v : View) {b c s t : ℕ → AllocationState} {b′ c′ s′ t′ : ℕ → ℕ} → ((n : ℕ) → b n ≡ c n) → ((n : ℕ) → s n ≡ t n) → ((n : ℕ) → b′ n ≡ c′ n) → ((n : ℕ) → s′ n ≡ t′ n)
+    → re-sided b s b′ s′ v ≡ re-sided c t c′ t′ v
+same-sides v eb es eb′ es′ = λ i. re-sided (fun-ext eb i) (fun-ext es i) (fun-ext eb′ i) (fun-ext es′ i) v
 
 -- a change of one side alone
 pub record Only (w : Side) (f : Trade → Trade) : Type 0 where
@@ -179,16 +171,4 @@ module _ (a c : ℕ) (f g : Trade → Trade) (ts : List Trade) (xs : List Interm
       seller-view c g (changed number a f ts) xs ps og (here-after a f ts kf c hc) (none-after a f ts kf z) x (gx _) (tr (changed number a f ts) c .seller .tie) (gi _)
       ∙ ap (λ (v : View). re-sided (v .buyer) (put c x (v .seller)) (v .buys) (put c (v .sells c) (v .sells)) v)
       (buyer-view a f ts xs ps of ha z x (fx _) (tr ts a .buyer .tie) (fi _))
-      ∙ same-view _ _ (record {
-        present = λ m. refl;
-        cancelled = λ m. refl;
-        num = λ m. refl;
-        terms = λ m. refl;
-        buyer = λ m. refl;
-        seller = λ m. refl;
-        buys = λ m. put-same a (tr ts a .buyer .tie) (λ k. tr ts k .buyer .tie) m (λ _. refl);
-        sells = λ m. put-same c (tr ts c .seller .tie) (λ k. tr ts k .seller .tie) m (λ _. refl);
-        bought = λ m. refl;
-        sold = λ m. refl;
-        pairs = refl;
-      })
+      ∙ same-sides (shows ts xs ps) (λ m. refl) (λ m. refl) (λ m. put-same a (tr ts a .buyer .tie) (λ k. tr ts k .buyer .tie) m (λ _. refl)) (λ m. put-same c (tr ts c .seller .tie) (λ k. tr ts k .seller .tie) m (λ _. refl))

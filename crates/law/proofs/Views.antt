@@ -48,97 +48,54 @@ last v = far (next v)
 abbrev pub whole-chain : View → ℕ → Bool
 whole-chain v n = whole (next v) (prev v) (full v) n
 
+-- a view with other trades, other sides, other ties
+abbrev pub with-trades : (ℕ → Bool) → (ℕ → Bool) → (ℕ → Bool) → (ℕ → Common) → View → View
+with-trades p c n t v = record {
+  present = p; cancelled = c; num = n; terms = t; buyer = v .buyer; seller = v .seller;
+  buys = v .buys; sells = v .sells; bought = v .bought; sold = v .sold; pairs = v .pairs;
+}
+
+abbrev pub with-sides : (ℕ → AllocationState) → (ℕ → AllocationState) → View → View
+with-sides b s v = record {
+  present = v .present; cancelled = v .cancelled; num = v .num; terms = v .terms; buyer = b; seller = s;
+  buys = v .buys; sells = v .sells; bought = v .bought; sold = v .sold; pairs = v .pairs;
+}
+
+abbrev pub with-ties : (ℕ → ℕ) → (ℕ → ℕ) → (ℕ → ℕ) → (ℕ → ℕ) → View → View
+with-ties b s x y v = record {
+  present = v .present; cancelled = v .cancelled; num = v .num; terms = v .terms; buyer = v .buyer; seller = v .seller;
+  buys = b; sells = s; bought = x; sold = y; pairs = v .pairs;
+}
+
+abbrev pub with-pairs : List Pair → View → View
+with-pairs ps v = record {
+  present = v .present; cancelled = v .cancelled; num = v .num; terms = v .terms; buyer = v .buyer; seller = v .seller;
+  buys = v .buys; sells = v .sells; bought = v .bought; sold = v .sold; pairs = ps;
+}
+
 -- the buyer side of a and the seller side of c
 abbrev pub sides : ℕ → ℕ → AllocationState → View → View
-sides a c x v = record {
-  present = v .present;
-  cancelled = v .cancelled;
-  num = v .num;
-  terms = v .terms;
-  buyer = put a x (v .buyer);
-  seller = put c x (v .seller);
-  buys = v .buys;
-  sells = v .sells;
-  bought = v .bought;
-  sold = v .sold;
-  pairs = v .pairs;
-}
+sides a c x v = with-sides (put a x (v .buyer)) (put c x (v .seller)) v
 
 abbrev pub link : ℕ → ℕ → ℕ → View → View
-link id a c v = record {
-  present = v .present;
-  cancelled = v .cancelled;
-  num = v .num;
-  terms = v .terms;
-  buyer = v .buyer;
-  seller = v .seller;
-  buys = put a id (v .buys);
-  sells = put c id (v .sells);
-  bought = put id a (v .bought);
-  sold = put id c (v .sold);
-  pairs = v .pairs;
-}
+link id a c v = with-ties (put a id (v .buys)) (put c id (v .sells)) (put id a (v .bought)) (put id c (v .sold)) v
 
 abbrev pub unlink : ℕ → View → View
-unlink id v = record {
-  present = v .present;
-  cancelled = v .cancelled;
-  num = v .num;
-  terms = v .terms;
-  buyer = v .buyer;
-  seller = v .seller;
-  buys = put (v .bought id) 0 (v .buys);
-  sells = put (v .sold id) 0 (v .sells);
-  bought = put id 0 (v .bought);
-  sold = put id 0 (v .sold);
-  pairs = v .pairs;
-}
+unlink id v = with-ties (put (v .bought id) 0 (v .buys)) (put (v .sold id) 0 (v .sells)) (put id 0 (v .bought)) (put id 0 (v .sold)) v
 
 abbrev pub captured : ℕ → Common → View → View
-captured n t v = record {
-  present = put n true (v .present);
-  cancelled = put n false (v .cancelled);
-  num = v .num;
-  terms = put n t (v .terms);
-  buyer = put n Empty (v .buyer);
-  seller = put n Empty (v .seller);
-  buys = v .buys;
-  sells = v .sells;
-  bought = v .bought;
-  sold = v .sold;
-  pairs = v .pairs;
-}
+captured n t v = sides n n Empty (with-trades (put n true (v .present)) (put n false (v .cancelled)) (v .num) (put n t (v .terms)) v)
 
 abbrev pub voided : ℕ → View → View
-voided n v = record {
-  present = v .present;
-  cancelled = put n true (v .cancelled);
-  num = v .num;
-  terms = v .terms;
-  buyer = put n Empty (v .buyer);
-  seller = put n Empty (v .seller);
-  buys = v .buys;
-  sells = v .sells;
-  bought = v .bought;
-  sold = v .sold;
-  pairs = v .pairs;
-}
+voided n v = sides n n Empty (with-trades (v .present) (put n true (v .cancelled)) (v .num) (v .terms) v)
+
+-- other trades are numbered
+abbrev pub re-numbered : (ℕ → Bool) → View → View
+re-numbered b v = with-trades (v .present) (v .cancelled) b (v .terms) v
 
 -- the chain of n becomes N and has its pairs
 abbrev pub numbered : List Pair → ℕ → View → View
-numbered ps n v = record {
-  present = v .present;
-  cancelled = v .cancelled;
-  num = joined (prev v) n (v .num);
-  terms = v .terms;
-  buyer = v .buyer;
-  seller = v .seller;
-  buys = v .buys;
-  sells = v .sells;
-  bought = v .bought;
-  sold = v .sold;
-  pairs = v .pairs ++ ps;
-}
+numbered ps n v = with-pairs (v .pairs ++ ps) (re-numbered (joined (prev v) n (v .num)) v)
 
 -- one of two legs that is there
 abbrev pub leg : ℕ → ℕ → ℕ
@@ -149,17 +106,8 @@ exclude id v = unlink id (sides (v .bought id) (v .sold id) Empty v)
 
 abbrev pub nothing : View
 nothing = record {
-  present = λ n. false;
-  cancelled = λ n. false;
-  num = λ n. false;
-  terms = λ n. record { kind = Selic; asset = 0; quantity = 0; settlement = 0 };
-  buyer = λ n. Empty;
-  seller = λ n. Empty;
-  buys = λ n. 0;
-  sells = λ n. 0;
-  bought = λ n. 0;
-  sold = λ n. 0;
-  pairs = [];
+  present = λ n. false; cancelled = λ n. false; num = λ n. false; terms = λ n. record { kind = Selic; asset = 0; quantity = 0; settlement = 0 };
+  buyer = λ n. Empty; seller = λ n. Empty; buys = λ n. 0; sells = λ n. 0; bought = λ n. 0; sold = λ n. 0; pairs = [];
 }
 
 -- captured and not cancelled
