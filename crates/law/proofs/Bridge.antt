@@ -1,6 +1,7 @@
 -- What each change of the tables shows by number.
 use Rattle.keyed.proofs.Keys.{row-entered, row-removed, still-there}
 use Rattle.keyed.proofs.Words.{Bool, true, false, List, ⊎-elim, _≡_, refl, sym, ap, _∙_, ℕ, cases-eq, ne-eqb, eq-eqb, None, fun-ext}
+use Rattle.rows.specs.Legs.{intermediation-in}
 use Rattle.rows.specs.Trades.{in-state, captured as captured-row}
 use Rattle.rows.specs.declared.row.Allocation.{Allocation as Half-row}
 use Rattle.chains.proofs.Puts.{put-same}
@@ -8,8 +9,8 @@ use Rattle.chains.proofs.Ties.{put-on}
 use Rattle.chains.proofs.Walk.{put, Not0, Walk, far, joined}
 use Rattle.chains.proofs.Walks.{put-cases, put-off, far-next, far-far, member}
 use Rattle.book.specs.Effects.{cancelled}
-use Rattle.law.proofs.Shown.{common, tr, jo, shows, same-view, Here, None0, left, made, Only, buyer-view, seller-view, both-view, same-sides}
-use Rattle.law.proofs.Subject.{Intermediation, Pair, Side, Buyer, Seller, Terms, or-else, is-some, find, changed, entered, removed, rises-above, emptied, id, no-intermediation, number, allocation, is-cancelled, is-numbered, no-trade, at-side, numbered, AllocationState, Empty, Trade}
+use Rattle.law.proofs.Shown.{common, shows, same-view, Here, None0, left, made, Only, buyer-view, seller-view, both-view, same-sides}
+use Rattle.law.proofs.Subject.{Intermediation, Pair, Side, Buyer, Seller, Terms, or-else, is-some, find, changed, entered, removed, rises-above, emptied, id, no-intermediation, number, allocation, is-cancelled, is-numbered, no-trade, at-side, numbered, AllocationState, Empty, Trade, trade-in}
 use Rattle.law.proofs.Views.{View, next, prev, sides, link, captured, voided, exclude, re-numbered, with-sides, with-ties}
 
 -- the two legs that a side is
@@ -27,14 +28,14 @@ only-side Seller d = record { terms = λ t. refl; state = λ t. refl; across = �
 
 -- a side changed, its tie left
 pub side-view : (w : Side) (n : ℕ) (d : Half-row → Half-row) (ts : List Trade) (xs : List Intermediation) (ps : List Pair) → Here n ts → None0 ts
-    → (x : AllocationState) → d (allocation w (tr ts n)) .state ≡ x → d (allocation w (tr ts n)) .tie ≡ allocation w (tr ts n) .tie
+    → (x : AllocationState) → d (allocation w (trade-in ts n)) .state ≡ x → d (allocation w (trade-in ts n)) .tie ≡ allocation w (trade-in ts n) .tie
     → shows (changed number n (at-side w d) ts) xs ps ≡ sides (as-bought n w) (as-sold n w) x (shows ts xs ps)
 side-view Buyer n d ts xs ps h z x ex ei =
-    buyer-view n (at-side Buyer d) ts xs ps (only-side Buyer (λ _. d)) h z x ex (tr ts n .buyer .tie) ei
-    ∙ same-sides (shows ts xs ps) (λ m. refl) (λ m. sym (put-off 0 x (λ k. tr ts k .seller .state) m (λ e. e))) (λ m. put-same n (tr ts n .buyer .tie) (λ k. tr ts k .buyer .tie) m (λ _. refl)) (λ m. refl)
+    buyer-view n (at-side Buyer d) ts xs ps (only-side Buyer (λ _. d)) h z x ex (trade-in ts n .buyer .tie) ei
+    ∙ same-sides (shows ts xs ps) (λ m. refl) (λ m. sym (put-off 0 x (λ k. trade-in ts k .seller .state) m (λ e. e))) (λ m. put-same n (trade-in ts n .buyer .tie) (λ k. trade-in ts k .buyer .tie) m (λ _. refl)) (λ m. refl)
 side-view Seller n d ts xs ps h z x ex ei =
-    seller-view n (at-side Seller d) ts xs ps (only-side Seller (λ _. d)) h z x ex (tr ts n .seller .tie) ei
-    ∙ same-sides (shows ts xs ps) (λ m. sym (put-off 0 x (λ k. tr ts k .buyer .state) m (λ e. e))) (λ m. refl) (λ m. refl) (λ m. put-same n (tr ts n .seller .tie) (λ k. tr ts k .seller .tie) m (λ _. refl))
+    seller-view n (at-side Seller d) ts xs ps (only-side Seller (λ _. d)) h z x ex (trade-in ts n .seller .tie) ei
+    ∙ same-sides (shows ts xs ps) (λ m. sym (put-off 0 x (λ k. trade-in ts k .buyer .state) m (λ e. e))) (λ m. refl) (λ m. refl) (λ m. put-same n (trade-in ts n .seller .tie) (λ k. trade-in ts k .seller .tie) m (λ _. refl))
 
 -- sides put twice
 pub put-again : {X : Type 0} (a : ℕ) (x y : X) (f : ℕ → X) (m : ℕ) → put a x (put a y f) m ≡ put a x f m
@@ -46,18 +47,18 @@ sides-again a c x y v = same-sides v (put-again a x y (v .buyer)) (put-again c x
 
 -- an intermediation entered, and one removed
 pub entered-leg : (g : Intermediation → ℕ) (x : Intermediation) (xs : List Intermediation) → Not0 (x .id) → find id (x .id) xs ≡ None
-    → (m : ℕ) → g (jo (entered id x xs) m) ≡ put (x .id) (g x) (λ k. g (jo xs k)) m
+    → (m : ℕ) → g (intermediation-in (entered id x xs) m) ≡ put (x .id) (g x) (λ k. g (intermediation-in xs k)) m
 entered-leg g x xs z a m =
     ap (λ o. g (or-else no-intermediation o)) (row-entered id x xs m a)
-    ∙ ⊎-elim (λ (e : m ≡ x .id). rw (eq-eqb _ _ e) (sym (put-on (x .id) (g x) (λ k. g (jo xs k)) m e (λ y. z (sym e ∙ y)))))
-    (λ (e : m ≡ x .id → ⊥). rw (ne-eqb _ _ e) (sym (put-off (x .id) (g x) (λ k. g (jo xs k)) m (λ q. absurd (e q))))) (cases-eq m (x .id))
+    ∙ ⊎-elim (λ (e : m ≡ x .id). rw (eq-eqb _ _ e) (sym (put-on (x .id) (g x) (λ k. g (intermediation-in xs k)) m e (λ y. z (sym e ∙ y)))))
+    (λ (e : m ≡ x .id → ⊥). rw (ne-eqb _ _ e) (sym (put-off (x .id) (g x) (λ k. g (intermediation-in xs k)) m (λ q. absurd (e q))))) (cases-eq m (x .id))
 
 pub removed-leg : (g : Intermediation → ℕ) → g no-intermediation ≡ 0 → (n : ℕ) (xs : List Intermediation) → rises-above id 0 xs ≡ true → Not0 n
-    → (m : ℕ) → g (jo (removed id n xs) m) ≡ put n 0 (λ k. g (jo xs k)) m
+    → (m : ℕ) → g (intermediation-in (removed id n xs) m) ≡ put n 0 (λ k. g (intermediation-in xs k)) m
 removed-leg g gz n xs r z m =
     ap (λ o. g (or-else no-intermediation o)) (row-removed id n xs m 0 r)
-    ∙ ⊎-elim (λ (e : m ≡ n). rw (eq-eqb _ _ e) (gz ∙ sym (put-on n 0 (λ k. g (jo xs k)) m e (λ y. z (sym e ∙ y)))))
-    (λ (e : m ≡ n → ⊥). rw (ne-eqb _ _ e) (sym (put-off n 0 (λ k. g (jo xs k)) m (λ q. absurd (e q))))) (cases-eq m n)
+    ∙ ⊎-elim (λ (e : m ≡ n). rw (eq-eqb _ _ e) (gz ∙ sym (put-on n 0 (λ k. g (intermediation-in xs k)) m e (λ y. z (sym e ∙ y)))))
+    (λ (e : m ≡ n → ⊥). rw (ne-eqb _ _ e) (sym (put-off n 0 (λ k. g (intermediation-in xs k)) m (λ q. absurd (e q))))) (cases-eq m n)
 
 -- the same sides and ties, with other legs
 same-legs : (v : View) {b s : ℕ → AllocationState} {b′ s′ x x₂ y y₂ : ℕ → ℕ} → ((n : ℕ) → x n ≡ x₂ n) → ((n : ℕ) → y n ≡ y₂ n) → with-ties b′ s′ x y (with-sides b s v) ≡ with-ties b′ s′ x₂ y₂ (with-sides b s v)
@@ -74,11 +75,11 @@ joined-view x f g ts xs ps of og ha hc z i a d fx gx fi gi =
     ∙ same-legs (shows ts xs ps) (entered-leg (λ y. y .bought) x xs i a) (entered-leg (λ y. y .sold) x xs i a)
 
 pub excluded-view : (n : ℕ) (ts : List Trade) (xs : List Intermediation) (ps : List Pair)
-    → Here (jo xs n .bought) ts → Here (jo xs n .sold) ts → None0 ts → Not0 n → rises-above id 0 xs ≡ true
-    → shows (changed number (jo xs n .sold) (at-side Seller emptied) (changed number (jo xs n .bought) (at-side Buyer emptied) ts)) (removed id n xs) ps
+    → Here (intermediation-in xs n .bought) ts → Here (intermediation-in xs n .sold) ts → None0 ts → Not0 n → rises-above id 0 xs ≡ true
+    → shows (changed number (intermediation-in xs n .sold) (at-side Seller emptied) (changed number (intermediation-in xs n .bought) (at-side Buyer emptied) ts)) (removed id n xs) ps
     ≡ exclude n (shows ts xs ps)
 excluded-view n ts xs ps ha hc z i r =
-    both-view (jo xs n .bought) (jo xs n .sold) (at-side Buyer emptied) (at-side Seller emptied) ts (removed id n xs) ps
+    both-view (intermediation-in xs n .bought) (intermediation-in xs n .sold) (at-side Buyer emptied) (at-side Seller emptied) ts (removed id n xs) ps
     (only-side Buyer (λ _. emptied)) (only-side Seller (λ _. emptied)) ha hc z Empty (λ t. refl) (λ t. refl) 0 (λ t. refl) (λ t. refl)
     ∙ same-legs (shows ts xs ps) (removed-leg (λ y. y .bought) refl n xs r i) (removed-leg (λ y. y .sold) refl n xs r i)
 
@@ -95,24 +96,24 @@ captured-view t ts xs ps z a = same-view _ _ (record {
       ∙ ⊎-elim (λ (e : m ≡ t .number). rw (eq-eqb _ _ e) (sym (put-on (t .number) true (λ k. is-some (find number k ts)) m e (λ y. z (sym e ∙ y)))))
       (λ (e : m ≡ t .number → ⊥). rw (ne-eqb _ _ e) (sym (put-off (t .number) true (λ k. is-some (find number k ts)) m (λ q. absurd (e q))))) (cases-eq m (t .number));
   cancelled = field (λ x. is-cancelled (x .state));
-  num = λ m. field (λ x. is-numbered (x .state)) m ∙ put-same (t .number) false (λ k. is-numbered (tr ts k .state)) m (λ _. ap (λ x. is-numbered (x .state)) (sym none));
+  num = λ m. field (λ x. is-numbered (x .state)) m ∙ put-same (t .number) false (λ k. is-numbered (trade-in ts k .state)) m (λ _. ap (λ x. is-numbered (x .state)) (sym none));
   terms = field (λ x. common (x .terms));
   buyer = field (λ x. x .buyer .state);
   seller = field (λ x. x .seller .state);
-  buys = λ m. field (λ x. x .buyer .tie) m ∙ put-same (t .number) 0 (λ k. tr ts k .buyer .tie) m (λ _. ap (λ x. x .buyer .tie) (sym none));
-  sells = λ m. field (λ x. x .seller .tie) m ∙ put-same (t .number) 0 (λ k. tr ts k .seller .tie) m (λ _. ap (λ x. x .seller .tie) (sym none));
+  buys = λ m. field (λ x. x .buyer .tie) m ∙ put-same (t .number) 0 (λ k. trade-in ts k .buyer .tie) m (λ _. ap (λ x. x .buyer .tie) (sym none));
+  sells = λ m. field (λ x. x .seller .tie) m ∙ put-same (t .number) 0 (λ k. trade-in ts k .seller .tie) m (λ _. ap (λ x. x .seller .tie) (sym none));
   bought = λ m. refl;
   sold = λ m. refl;
   pairs = refl;
 })
   where
-    none : tr ts (t .number) ≡ no-trade
+    none : trade-in ts (t .number) ≡ no-trade
     none = ap (or-else no-trade) a
 
-    field : {X : Type 0} (g : Trade → X) (m : ℕ) → g (tr (entered number (captured-row t) ts) m) ≡ put (t .number) (g (captured-row t)) (λ k. g (tr ts k)) m
+    field : {X : Type 0} (g : Trade → X) (m : ℕ) → g (trade-in (entered number (captured-row t) ts) m) ≡ put (t .number) (g (captured-row t)) (λ k. g (trade-in ts k)) m
     field g m = ap (λ o. g (or-else no-trade o)) (row-entered number (captured-row t) ts m a)
-        ∙ ⊎-elim (λ (e : m ≡ t .number). rw (eq-eqb _ _ e) (sym (put-on (t .number) (g (captured-row t)) (λ k. g (tr ts k)) m e (λ y. z (sym e ∙ y)))))
-        (λ (e : m ≡ t .number → ⊥). rw (ne-eqb _ _ e) (sym (put-off (t .number) (g (captured-row t)) (λ k. g (tr ts k)) m (λ q. absurd (e q))))) (cases-eq m (t .number))
+        ∙ ⊎-elim (λ (e : m ≡ t .number). rw (eq-eqb _ _ e) (sym (put-on (t .number) (g (captured-row t)) (λ k. g (trade-in ts k)) m e (λ y. z (sym e ∙ y)))))
+        (λ (e : m ≡ t .number → ⊥). rw (ne-eqb _ _ e) (sym (put-off (t .number) (g (captured-row t)) (λ k. g (trade-in ts k)) m (λ q. absurd (e q))))) (cases-eq m (t .number))
 
 pub marked-view : (n : ℕ) (ts : List Trade) (xs : List Intermediation) (ps : List Pair) → Here n ts → None0 ts
     → shows (changed number n (λ t. in-state (t .state) true t) ts) xs ps ≡ shows ts xs ps
@@ -132,8 +133,8 @@ marked-view n ts xs ps h z =
       pairs = refl;
     })
 
-pub voided-view : (n : ℕ) (ts : List Trade) (xs : List Intermediation) (ps : List Pair) → Here n ts → None0 ts → is-numbered (tr ts n .state) ≡ false
-    → tr ts n .buyer .tie ≡ 0 → tr ts n .seller .tie ≡ 0
+pub voided-view : (n : ℕ) (ts : List Trade) (xs : List Intermediation) (ps : List Pair) → Here n ts → None0 ts → is-numbered (trade-in ts n .state) ≡ false
+    → trade-in ts n .buyer .tie ≡ 0 → trade-in ts n .seller .tie ≡ 0
     → shows (changed number n cancelled ts) xs ps ≡ voided n (shows ts xs ps)
 voided-view n ts xs ps h z nn zb zs = same-view _ _ (record {
   present = still-there number cancelled (λ t. refl) n ts;
@@ -150,7 +151,7 @@ voided-view n ts xs ps h z nn zb zs = same-view _ _ (record {
 })
 
 -- trades numbered
-pub numbered-one : (n : ℕ) (ts : List Trade) (xs : List Intermediation) (ps : List Pair) → Here n ts → None0 ts → (Not0 n → is-cancelled (tr ts n .state) ≡ false)
+pub numbered-one : (n : ℕ) (ts : List Trade) (xs : List Intermediation) (ps : List Pair) → Here n ts → None0 ts → (Not0 n → is-cancelled (trade-in ts n .state) ≡ false)
     → shows (changed number n numbered ts) xs ps ≡ re-numbered (put n true (shows ts xs ps .num)) (shows ts xs ps)
 numbered-one n ts xs ps h z nx = same-view _ _ (record {
   present = still-there number numbered (λ t. refl) n ts;

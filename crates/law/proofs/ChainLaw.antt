@@ -5,7 +5,7 @@ use Rattle.keyed.proofs.Words.{true, _&&_, List, [], _∷_, inl, inr, ⊎-elim,
 use Rattle.chains.proofs.Walk.{Not0}
 use Rattle.book.specs.State.{State, trade, intermediation}
 use Rattle.law.proofs.Accepts.{Sound, halves-of, there-of, not0-pos}
-use Rattle.law.proofs.Chained.{tie-at, leg-at, leg-some, jo-id}
+use Rattle.law.proofs.Chained.{tie-at, leg-at, leg-some, intermediation-id}
 use Rattle.law.proofs.Shown.{common, view}
 use Rattle.law.proofs.Subject.{Intermediation, Kind, Selic, Deposited, Registered, Side, Buyer, Terms, or-else, is-some, In, Each, find, same-kind, id, leg, no-intermediation, number, allocation, no-trade, alike, Trade}
 use Rattle.law.proofs.Views.{Common, next}
@@ -53,7 +53,7 @@ module _ (s : State) (g : Sound s) where
       let i = tie-at (s .trades .rows) w n in
       let own : leg-at (s .intermediations .rows) w i ≡ n = halves-of s g w .back n t in
       let there : is-some (find id i (s .intermediations .rows)) ≡ true = leg-some (s .intermediations .rows) w i (λ y. z (sym own ∙ y)) in
-      record { by = intermediation s i; stands = row-found id i (s .intermediations .rows) (intermediation s i) (some-of no-intermediation (find id i (s .intermediations .rows)) there) .0; has-id = jo-id (s .intermediations .rows) i there; holds = own }
+      record { by = intermediation s i; stands = row-found id i (s .intermediations .rows) (intermediation s i) (some-of no-intermediation (find id i (s .intermediations .rows)) there) .0; has-id = intermediation-id (s .intermediations .rows) i there; holds = own }
 
   pub link-next : (n m : ℕ) → Link (s .intermediations .rows) n m → next (view s) n ≡ m
   link-next n m l =

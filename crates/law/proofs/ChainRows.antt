@@ -11,7 +11,7 @@ use Rattle.book.specs.Numbering.{confirms-in, chain-confirmed, completed}
 use Rattle.book.specs.Runs.{History, Beginning}
 use Rattle.book.specs.State.{State, trade, intermediation, chain-in, chain-of}
 use Rattle.law.proofs.Events.{Kind-known}
-use Rattle.law.proofs.Subject.{Intermediation, Side, Buyer, Seller, or-else, all, is-some, Each, find, changed, Listed, Request, Capture, Cancel, Include, Remove, Confirm, Intermediate, ConfirmIntermediation, ExcludeIntermediation, Close, is-selic, other, confirmed, id, leg, number, both-confirmed, at-side, no-trade, Trade}
+use Rattle.law.proofs.Subject.{Intermediation, Side, Buyer, Seller, or-else, all, is-some, Each, find, changed, Listed, Request, Capture, Cancel, Include, Remove, Confirm, Intermediate, ConfirmIntermediation, ExcludeIntermediation, Close, is-selic, other, confirmed, id, leg, number, both-confirmed, at-side, no-trade, Trade, trade-in}
 use Rattle.law.specs.Law.{Agrees, as-plain}
 use Rattle.law.specs.Plain.{Plain, plain, plain-number, terms-of, terms-in}
 
@@ -142,26 +142,23 @@ completed-found r s q = one-found (placed r s q) (confirms-in s q)
 
 -- ── Terms stay ──
 
-abbrev pub trade-at : List Trade → ℕ → Trade
-trade-at ts n = or-else no-trade (find number n ts)
-
 -- a part of a row that a change keeps
 pub part-changed : {Y : Type 0} (g : Trade → Y) (f : Trade → Trade) → ((t : Trade) → number (f t) ≡ number t) → ((t : Trade) → g (f t) ≡ g t)
-    → (k n : ℕ) (ts : List Trade) → g (trade-at (changed number k f ts) n) ≡ g (trade-at ts n)
+    → (k n : ℕ) (ts : List Trade) → g (trade-in (changed number k f ts) n) ≡ g (trade-in ts n)
 part-changed g f key same k n [] = refl
 part-changed g f key same k n (t ∷ ts) = go (part-changed g f key same k n ts) (eqb (number t) k)
   where
     front : (z : Bool) → g (or-else no-trade (cond z (Some (f t)) (find number n ts))) ≡ g (or-else no-trade (cond z (Some t) (find number n ts)))
     front true = same t
     front false = refl
-    behind : (us : List Trade) → g (trade-at us n) ≡ g (trade-at ts n) → (z : Bool) → g (or-else no-trade (cond z (Some t) (find number n us))) ≡ g (or-else no-trade (cond z (Some t) (find number n ts)))
+    behind : (us : List Trade) → g (trade-in us n) ≡ g (trade-in ts n) → (z : Bool) → g (or-else no-trade (cond z (Some t) (find number n us))) ≡ g (or-else no-trade (cond z (Some t) (find number n ts)))
     behind us ih true = refl
     behind us ih false = ih
-    go : g (trade-at (changed number k f ts) n) ≡ g (trade-at ts n) → (z : Bool) → g (trade-at (cond z (f t ∷ ts) (t ∷ changed number k f ts)) n) ≡ g (trade-at (t ∷ ts) n)
+    go : g (trade-in (changed number k f ts) n) ≡ g (trade-in ts n) → (z : Bool) → g (trade-in (cond z (f t ∷ ts) (t ∷ changed number k f ts)) n) ≡ g (trade-in (t ∷ ts) n)
     go ih true = ap (λ m. g (or-else no-trade (cond (eqb m n) (Some (f t)) (find number n ts)))) (key t) ∙ front (eqb (number t) n)
     go ih false = behind (changed number k f ts) ih (eqb (number t) n)
 
-pub terms-changed : (f : Trade → Trade) → ((t : Trade) → f t .terms ≡ t .terms) → (k n : ℕ) (ts : List Trade) → trade-at (changed number k f ts) n .terms ≡ trade-at ts n .terms
+pub terms-changed : (f : Trade → Trade) → ((t : Trade) → f t .terms ≡ t .terms) → (k n : ℕ) (ts : List Trade) → trade-in (changed number k f ts) n .terms ≡ trade-in ts n .terms
 terms-changed f same k n ts = part-changed (λ t. t .terms) f (λ t. ap (λ e. e .number) (same t)) same k n ts
 
 -- a request that may complete a chain changes no terms

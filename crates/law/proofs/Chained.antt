@@ -4,18 +4,18 @@ use Rattle.keyed.proofs.Keys.{row-found}
 use Rattle.keyed.proofs.Lists.{some-of, none-by}
 use Rattle.keyed.proofs.Words.{Bool, true, false, _&&_, _||_, cond, List, [], _∷_, map, ⊎-elim, _≡_, refl, sym, ap, ap₂, _∙_, ℕ, suc, eqb, length, cases-eq, cases-bool, ne-eqb, eq-eqb, Some}
 use Rattle.rows.proofs.Sides.{none-leg}
+use Rattle.rows.specs.Legs.{intermediation-in}
 use Rattle.chains.proofs.Ties.{first-is}
 use Rattle.chains.proofs.Walk.{Not0, one, far, Walk, Half, count-from, whole-from}
 use Rattle.chains.proofs.Walks.{far-is, one-stays, one-goes, turned}
 use Rattle.chains.specs.Following.{Beyond, beyond, by-intermediation, tied-back, onto, way, together, chain, last-of, a-trade, nothing, broken, by-tie, tie-in, tie-of, onward}
-use Rattle.law.proofs.Shown.{tr, jo}
-use Rattle.law.proofs.Subject.{Intermediation, Side, Buyer, Seller, or-else, is-some, all, any, find, other, id, leg, no-intermediation, number, allocation, no-trade, Trade}
+use Rattle.law.proofs.Subject.{Intermediation, Side, Buyer, Seller, or-else, is-some, all, any, find, other, id, leg, no-intermediation, number, allocation, no-trade, Trade, trade-in}
 
 abbrev pub tie-at : List Trade → Side → ℕ → ℕ
-tie-at ts w n = allocation w (tr ts n) .tie
+tie-at ts w n = allocation w (trade-in ts n) .tie
 
 abbrev pub leg-at : List Intermediation → Side → ℕ → ℕ
-leg-at xs w i = leg w (jo xs i)
+leg-at xs w i = leg w (intermediation-in xs i)
 
 -- the trade next to a trade, over its side w
 abbrev pub on : List Trade → List Intermediation → Side → ℕ → ℕ
@@ -26,11 +26,11 @@ leg-some xs w i z = ⊎-elim (λ (e : is-some (find id i xs) ≡ true). e)
     (λ (e : is-some (find id i xs) ≡ false). absurd (z (ap (λ o. leg w (or-else no-intermediation o)) (none-by (find id i xs) e) ∙ none-leg w)))
     (cases-bool (is-some (find id i xs)))
 
-pub jo-id : (xs : List Intermediation) (i : ℕ) → is-some (find id i xs) ≡ true → jo xs i .id ≡ i
-jo-id xs i h = row-found id i xs (jo xs i) (some-of no-intermediation (find id i xs) h) .1
+pub intermediation-id : (xs : List Intermediation) (i : ℕ) → is-some (find id i xs) ≡ true → intermediation-in xs i .id ≡ i
+intermediation-id xs i h = row-found id i xs (intermediation-in xs i) (some-of no-intermediation (find id i xs) h) .1
 
-pub tr-number : (ts : List Trade) (n : ℕ) → is-some (find number n ts) ≡ true → number (tr ts n) ≡ n
-tr-number ts n h = row-found number n ts (tr ts n) (some-of no-trade (find number n ts) h) .1
+pub trade-number : (ts : List Trade) (n : ℕ) → is-some (find number n ts) ≡ true → number (trade-in ts n) ≡ n
+trade-number ts n h = row-found number n ts (trade-in ts n) (some-of no-trade (find number n ts) h) .1
 
 module _ (ts : List Trade) (xs : List Intermediation) (half : (w : Side) → Half (tie-at ts w) (leg-at xs w))
     (there : (w : Side) (i : ℕ) → Not0 (leg-at xs w i) → is-some (find number (leg-at xs w i) ts) ≡ true) where
@@ -49,11 +49,11 @@ module _ (ts : List Trade) (xs : List Intermediation) (half : (w : Side) → Hal
       let here : is-some (find id i xs) ≡ true = leg-some xs w i (λ y. z (sym own ∙ y)) in
       rw (ne-eqb _ _ e) (
       ap (by-intermediation (tie-in ts) w n) (some-of no-intermediation (find id i xs) here)
-      ∙ ap (λ b. cond b (cond (eqb (on ts xs w n) 0) nothing (tied-back (jo xs i .id) (on ts xs w n) (tie-in ts (other w) (on ts xs w n)))) broken) (eq-eqb _ _ own) ∙
+      ∙ ap (λ b. cond b (cond (eqb (on ts xs w n) 0) nothing (tied-back (intermediation-in xs i .id) (on ts xs w n) (tie-in ts (other w) (on ts xs w n)))) broken) (eq-eqb _ _ own) ∙
       ⊎-elim (λ (d : on ts xs w n ≡ 0). rw (eq-eqb (on ts xs w n) 0 d) refl)
       (λ (d : Not0 (on ts xs w n)). rw (ne-eqb (on ts xs w n) 0 d) (
-      ap (tied-back (jo xs i .id) (on ts xs w n)) (tie-there (other w) (on ts xs w n) (there (other w) i d))
-      ∙ ap (λ b. cond b (a-trade (on ts xs w n)) broken) (eq-eqb _ _ (half (other w) .forth i d ∙ sym (jo-id xs i here)))))
+      ap (tied-back (intermediation-in xs i .id) (on ts xs w n)) (tie-there (other w) (on ts xs w n) (there (other w) i d))
+      ∙ ap (λ b. cond b (a-trade (on ts xs w n)) broken) (eq-eqb _ _ (half (other w) .forth i d ∙ sym (intermediation-id xs i here)))))
       (cases-eq (on ts xs w n) 0)))
       (cases-eq (tie-at ts w n) 0)
 
@@ -92,7 +92,7 @@ module _ (ts : List Trade) (xs : List Intermediation) (half : (w : Side) → Hal
   numbers-from f = f ∷ ahead Buyer f
 
   abbrev pub line : ℕ → List Trade
-  line f = map (tr ts) (numbers-from f)
+  line f = map (trade-in ts) (numbers-from f)
 
   two : (x : ℕ) (a b : Bool) (u v : ℕ) → together (Some []) x (Some (cond a [] (u ∷ cond b [] (v ∷ [])))) ≡ Some (x ∷ cond a [] (u ∷ cond b [] (v ∷ [])))
   two x true b u v = refl
@@ -135,17 +135,17 @@ module _ (ts : List Trade) (xs : List Intermediation) (half : (w : Side) → Hal
       ⊎-elim (λ (d : nx (nx f) ≡ 0). rw (eq-eqb _ _ d) refl) (λ (d : Not0 (nx (nx f))). rw (ne-eqb _ _ d) refl) (cases-eq (nx (nx f)) 0)))
       (cases-eq (nx f) 0)
 
-  pub all-line : (p : Trade → Bool) (q : ℕ → Bool) (f : ℕ) → on ts xs Buyer 0 ≡ 0 → q 0 ≡ true → ((k : ℕ) → Not0 k → q k ≡ p (tr ts k)) → Not0 f
+  pub all-line : (p : Trade → Bool) (q : ℕ → Bool) (f : ℕ) → on ts xs Buyer 0 ≡ 0 → q 0 ≡ true → ((k : ℕ) → Not0 k → q k ≡ p (trade-in ts k)) → Not0 f
       → all p (line f) ≡ whole-from (on ts xs Buyer) q f
   unfolding whole-from
   all-line p q f z q0 qk zf =
       let nx = on ts xs Buyer in
-      ap (λ b. b && all p (map (tr ts) (ahead Buyer f))) (sym (qk f zf)) ∙
+      ap (λ b. b && all p (map (trade-in ts) (ahead Buyer f))) (sym (qk f zf)) ∙
       ⊎-elim (λ (e : nx f ≡ 0). rw (e, z, q0) refl)
       (λ (e : Not0 (nx f)). rw (ne-eqb (nx f) 0 e) (
-      ap (λ b. q f && (b && all p (map (tr ts) (cond (eqb (nx (nx f)) 0) [] (nx (nx f) ∷ []))))) (sym (qk (nx f) e)) ∙
+      ap (λ b. q f && (b && all p (map (trade-in ts) (cond (eqb (nx (nx f)) 0) [] (nx (nx f) ∷ []))))) (sym (qk (nx f) e)) ∙
       ⊎-elim (λ (d : nx (nx f) ≡ 0). rw (d, q0) refl)
-      (λ (d : Not0 (nx (nx f))). rw (ne-eqb (nx (nx f)) 0 d) (ap (λ b. q f && (q (nx f) && b)) (and-true (p (tr ts (nx (nx f)))) ∙ sym (qk (nx (nx f)) d))))
+      (λ (d : Not0 (nx (nx f))). rw (ne-eqb (nx (nx f)) 0 d) (ap (λ b. q f && (q (nx f) && b)) (and-true (p (trade-in ts (nx (nx f)))) ∙ sym (qk (nx (nx f)) d))))
       (cases-eq (nx (nx f)) 0)))
       (cases-eq (nx f) 0)
     where
@@ -165,7 +165,7 @@ module _ (ts : List Trade) (xs : List Intermediation) (half : (w : Side) → Hal
       (λ z. or-parts _ _ (b z) .0),
       (λ z y. or-parts (q (nx (nx f))) false (sym (ap (λ c. any q (cond c [] (nx (nx f) ∷ []))) (ne-eqb (nx (nx f)) 0 y)) ∙ or-parts _ _ (b z) .1) .0))
 
-  pub last-line : (f : ℕ) → on ts xs Buyer 0 ≡ 0 → last-of (line f) ≡ tr ts (far (on ts xs Buyer) f)
+  pub last-line : (f : ℕ) → on ts xs Buyer 0 ≡ 0 → last-of (line f) ≡ trade-in ts (far (on ts xs Buyer) f)
   last-line f z =
       let nx = on ts xs Buyer in
       rw far-is (

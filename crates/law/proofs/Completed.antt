@@ -10,19 +10,19 @@ use Rattle.chains.specs.Paired.{Paired}
 use Rattle.book.specs.Numbering.{all-numbered, numbering, chain-matches, by-selic, issuer, new-pairs}
 use Rattle.book.specs.Runs.{History, Beginning}
 use Rattle.book.specs.State.{State, trade}
-use Rattle.law.proofs.ChainRows.{Found, trade-at, part-changed}
+use Rattle.law.proofs.ChainRows.{Found, part-changed}
 use Rattle.law.proofs.Events.{Unnumbered}
 use Rattle.law.proofs.Histories.{Issued, begun-before}
 use Rattle.law.proofs.PairLaw.{Full}
 use Rattle.law.proofs.Quantities.{Sound-trade, each-changed}
-use Rattle.law.proofs.Subject.{Side, Buyer, Seller, or-else, Each, Table, find, changed-in, is-empty, is-confirmed, total, entries-held, number, allocation, both-confirmed, alike, numbered, no-trade, Trade, all}
+use Rattle.law.proofs.Subject.{Side, Buyer, Seller, or-else, Each, Table, find, changed-in, is-empty, is-confirmed, total, entries-held, number, allocation, both-confirmed, alike, numbered, no-trade, Trade, all, trade-in}
 use Rattle.law.specs.Law.{Sides, Linked, Chains, final, begun-for}
 use Rattle.law.specs.Plain.{given}
 
 -- ── Numbering changes states alone ──
 
 pub numbered-part : {Y : Type 0} (g : Trade → Y) → ((t : Trade) → g (numbered t) ≡ g t) → (c : List Trade) (t : Table Trade) (n : ℕ)
-    → g (trade-at (all-numbered c t .rows) n) ≡ g (trade-at (t .rows) n)
+    → g (trade-in (all-numbered c t .rows) n) ≡ g (trade-in (t .rows) n)
 numbered-part g same [] t n = refl
 numbered-part g same (u ∷ c) t n =
     numbered-part g same c (changed-in number (number u) numbered t) n ∙ part-changed g numbered (λ _. refl) same (number u) n (t .rows)
@@ -95,7 +95,7 @@ last-each P x (u ∷ us) h = last-each P u us (h .1)
 
 -- the end trades of the chain as they stand after numbering
 found-part : {Y : Type 0} (g : Trade → Y) → ((t : Trade) → g (numbered t) ≡ g t) → (c : List Trade) (t : Table Trade) (u : Trade) → Found (t .rows) u
-    → g (trade-at (all-numbered c t .rows) (number u)) ≡ g u
+    → g (trade-in (all-numbered c t .rows) (number u)) ≡ g u
 found-part g same c t u f = numbered-part g same c t (number u) ∙ ap (λ o. g (or-else no-trade o)) f
 
 -- c was completed in u, with s's numbers; t is what is left

@@ -3,6 +3,7 @@ use mathlib.Core.List.{map-append}
 use Rattle.keyed.proofs.Keys.{row-past}
 use Rattle.keyed.proofs.Lists.{none-by, none-some}
 use Rattle.keyed.proofs.Words.{true, false, cond, List, [], _∷_, _++_, map, inl, inr, ⊎-elim, _≡_, refl, sym, ap, ap₂, subst, fun-ext, _∙_, ℕ, zero, suc, _+_, _≤_, _<_, arith, length, cases-eq, cases-bool, ne-eqb, eq-eqb, and-parts, not-true, false≢true, Some, None}
+use Rattle.rows.specs.Legs.{intermediation-in}
 use Rattle.chains.proofs.Walk.{put, Not0, Walk, Half, Among, Pair as Ends, pair}
 use Rattle.chains.proofs.Walks.{put-cases, far-not0, far-keeps, far-far, far-across, whole-parts, whole-any, turned}
 use Rattle.chains.specs.Following.{first-of, last-of}
@@ -11,11 +12,11 @@ use Rattle.chains.specs.declared.pairing.Match.{Match}
 use Rattle.book.specs.Numbering.{if-all-confirmed, chain-confirmed, chain-matches, issuer, new-pairs, all-numbered, numbering, with-numbers}
 use Rattle.book.specs.State.{State, chain-of, trade}
 use Rattle.law.proofs.Bridge.{numbered-one, marked}
-use Rattle.law.proofs.Chained.{tie-at, leg-at, line, chain-is, all-line, last-line, tr-number}
+use Rattle.law.proofs.Chained.{tie-at, leg-at, line, chain-is, all-line, last-line, trade-number}
 use Rattle.law.proofs.Confirms.{leg-left, leg-right, part-kept, whole-kept}
 use Rattle.law.proofs.Kept.{walk, full-none, full-parts, bought-live, sold-live}
-use Rattle.law.proofs.Shown.{tr, jo, ends, shows, view, Here, None0, here-after, none-after}
-use Rattle.law.proofs.Subject.{Entry, Intermediation, Pair, Side, Buyer, Seller, or-else, is-some, all, Table, find, changed, entries-held, number, numbered, both-confirmed, Confirmed, Trade}
+use Rattle.law.proofs.Shown.{ends, shows, view, Here, None0, here-after, none-after}
+use Rattle.law.proofs.Subject.{Entry, Intermediation, Pair, Side, Buyer, Seller, or-else, is-some, all, Table, find, changed, entries-held, number, numbered, both-confirmed, Confirmed, Trade, trade-in}
 use Rattle.law.proofs.Views.{re-numbered, View, sure, next, prev, full, full-by, first, last, whole-chain, sides, numbered as numbered-view, leg, live, Sound, with-pairs}
 
 changed-none : (n : ℕ) (f : Trade → Trade) (ts : List Trade) → find number n ts ≡ None → changed number n f ts ≡ ts
@@ -43,8 +44,8 @@ pub halves : (ts : List Trade) (xs : List Intermediation) (ps : List Pair) (v : 
     → ((n : ℕ) → shows ts xs ps .buys n ≡ v .buys n) → ((n : ℕ) → shows ts xs ps .sells n ≡ v .sells n)
     → ((n : ℕ) → shows ts xs ps .bought n ≡ v .bought n) → ((n : ℕ) → shows ts xs ps .sold n ≡ v .sold n)
     → (w : Side) → Half (tie-at ts w) (leg-at xs w)
-halves ts xs ps v b s e1 e2 e3 e4 Buyer = subst (λ f. Half f (λ i. jo xs i .bought)) (sym (fun-ext e1)) (subst (Half (v .buys)) (sym (fun-ext e3)) b)
-halves ts xs ps v b s e1 e2 e3 e4 Seller = subst (λ f. Half f (λ i. jo xs i .sold)) (sym (fun-ext e2)) (subst (Half (v .sells)) (sym (fun-ext e4)) s)
+halves ts xs ps v b s e1 e2 e3 e4 Buyer = subst (λ f. Half f (λ i. intermediation-in xs i .bought)) (sym (fun-ext e1)) (subst (Half (v .buys)) (sym (fun-ext e3)) b)
+halves ts xs ps v b s e1 e2 e3 e4 Seller = subst (λ f. Half f (λ i. intermediation-in xs i .sold)) (sym (fun-ext e2)) (subst (Half (v .sells)) (sym (fun-ext e4)) s)
 
 module _ (p : State) (half : (w : Side) → Half (tie-at (p .trades .rows) w) (leg-at (p .intermediations .rows) w))
     (there : (w : Side) (i : ℕ) → Not0 (leg-at (p .intermediations .rows) w i) → is-some (find number (leg-at (p .intermediations .rows) w i) (p .trades .rows)) ≡ true)
@@ -55,7 +56,7 @@ module _ (p : State) (half : (w : Side) → Half (tie-at (p .trades .rows) w) (l
   pub chain-of-is : (n : ℕ) → is-some (find number n (p .trades .rows)) ≡ true → Not0 n → chain-of p n ≡ line-in (first (view p) n)
   chain-of-is n h z = ap (λ o. map (trade p) (or-else [] o)) (chain-is (p .trades .rows) (p .intermediations .rows) half there w n h z)
 
-  pub full-is : (k : ℕ) → Not0 k → full (view p) k ≡ both-confirmed (tr (p .trades .rows) k)
+  pub full-is : (k : ℕ) → Not0 k → full (view p) k ≡ both-confirmed (trade-in (p .trades .rows) k)
   unfolding full-by
   full-is k z = rw (ne-eqb _ _ z) refl
 
@@ -78,12 +79,12 @@ module _ (p : State) (half : (w : Side) → Half (tie-at (p .trades .rows) w) (l
       let nu2 : None0 us2 = none-after (nx f) numbered us (λ _. refl) nu in
       let there-next : (k : ℕ) → Not0 (nx k) → is-some (find number (nx k) ts) ≡ true = λ k y. there Seller (tie-at ts Buyer k) y in
       ⊎-elim (λ (d : nx f ≡ 0).
-      rw (eq-eqb (nx f) 0 d, d, w .next-none, tr-number ts f (hf zf), e)
+      rw (eq-eqb (nx f) 0 d, d, w .next-none, trade-number ts f (hf zf), e)
       (sym (ap (changed number 0 numbered) (changed-none 0 numbered us (none-by _ nu)) ∙ changed-none 0 numbered us (none-by _ nu))))
       (λ (d : Not0 (nx f)).
-      ⊎-elim (λ (g : nx (nx f) ≡ 0). rw (ne-eqb (nx f) 0 d, eq-eqb (nx (nx f)) 0 g, tr-number ts f (hf zf), tr-number ts (nx f) (there-next f d), g, e) (sym (changed-none 0 numbered us2 (none-by _ nu2))))
+      ⊎-elim (λ (g : nx (nx f) ≡ 0). rw (ne-eqb (nx f) 0 d, eq-eqb (nx (nx f)) 0 g, trade-number ts f (hf zf), trade-number ts (nx f) (there-next f d), g, e) (sym (changed-none 0 numbered us2 (none-by _ nu2))))
       (λ (g : Not0 (nx (nx f))).
-      rw (ne-eqb (nx f) 0 d, ne-eqb (nx (nx f)) 0 g, tr-number ts f (hf zf), tr-number ts (nx f) (there-next f d), tr-number ts (nx (nx f)) (there-next (nx f) g), e) refl)
+      rw (ne-eqb (nx f) 0 d, ne-eqb (nx (nx f)) 0 g, trade-number ts f (hf zf), trade-number ts (nx f) (there-next f d), trade-number ts (nx (nx f)) (there-next (nx f) g), e) refl)
       (cases-eq (nx (nx f)) 0))
       (cases-eq (nx f) 0)
 
@@ -155,12 +156,12 @@ module _ (p : State) (n : ℕ) (k : Confirming p n) where
 
   pub conf-there : (w : Side) (i : ℕ) → Not0 (leg-at (p .intermediations .rows) w i) → is-some (find number (leg-at (p .intermediations .rows) w i) (p .trades .rows)) ≡ true
   conf-there Buyer i z =
-      let e : jo (p .intermediations .rows) i .bought ≡ k .base .bought i = ap (λ (v : View). v .bought i) (k .shown) in
-      ap (λ (v : View). v .present (jo (p .intermediations .rows) i .bought)) (k .shown) ∙ ap (k .base .present) e
+      let e : intermediation-in (p .intermediations .rows) i .bought ≡ k .base .bought i = ap (λ (v : View). v .bought i) (k .shown) in
+      ap (λ (v : View). v .present (intermediation-in (p .intermediations .rows) i .bought)) (k .shown) ∙ ap (k .base .present) e
       ∙ and-parts _ _ (bought-live (k .base) (k .sound) i (λ y. z (e ∙ y))) .0
   conf-there Seller i z =
-      let e : jo (p .intermediations .rows) i .sold ≡ k .base .sold i = ap (λ (v : View). v .sold i) (k .shown) in
-      ap (λ (v : View). v .present (jo (p .intermediations .rows) i .sold)) (k .shown) ∙ ap (k .base .present) e
+      let e : intermediation-in (p .intermediations .rows) i .sold ≡ k .base .sold i = ap (λ (v : View). v .sold i) (k .shown) in
+      ap (λ (v : View). v .present (intermediation-in (p .intermediations .rows) i .sold)) (k .shown) ∙ ap (k .base .present) e
       ∙ and-parts _ _ (sold-live (k .base) (k .sound) i (λ y. z (e ∙ y))) .0
 
   pub conf-walk : Walk (next (view p)) (prev (view p))
@@ -197,15 +198,15 @@ module _ (p : State) (n : ℕ) (k : Confirming p n) where
   conf-chain = chain-of-is p conf-half conf-there conf-walk n conf-here (k .some)
 
   pub conf-first : number (first-of conf-line) ≡ first (view p) n
-  conf-first = tr-number (p .trades .rows) (first (view p) n)
+  conf-first = trade-number (p .trades .rows) (first (view p) n)
       (far-keeps (prev (view p)) (λ m. is-some (find number m (p .trades .rows)) ≡ true) (λ m _ z. conf-there Buyer (tie-at (p .trades .rows) Seller m) z) n conf-here)
 
-  pub conf-last-is : last-of conf-line ≡ tr (p .trades .rows) (last (view p) n)
+  pub conf-last-is : last-of conf-line ≡ trade-in (p .trades .rows) (last (view p) n)
   conf-last-is = last-line (p .trades .rows) (p .intermediations .rows) conf-half conf-there (first (view p) n) (conf-walk .next-none)
-      ∙ ap (tr (p .trades .rows)) (far-across (next (view p)) (prev (view p)) conf-walk n)
+      ∙ ap (trade-in (p .trades .rows)) (far-across (next (view p)) (prev (view p)) conf-walk n)
 
   pub conf-last : number (last-of conf-line) ≡ last (view p) n
-  conf-last = ap number conf-last-is ∙ tr-number (p .trades .rows) (last (view p) n)
+  conf-last = ap number conf-last-is ∙ trade-number (p .trades .rows) (last (view p) n)
       (far-keeps (next (view p)) (λ m. is-some (find number m (p .trades .rows)) ≡ true) (λ m _ z. conf-there Seller (tie-at (p .trades .rows) Buyer m) z) n conf-here)
 
   pub conf-all : all both-confirmed conf-line ≡ whole-chain (view p) n
@@ -230,12 +231,12 @@ module _ (p : State) (n : ℕ) (k : Confirming p n) where
 
   -- the ends hold something
   ends-some : whole-chain (view p) n ≡ true
-      → ((m : ℕ) → Not0 m → both-confirmed (tr (p .trades .rows) m) ≡ true → (0 < length (entries-held (tr (p .trades .rows) m .seller))) × (0 < length (entries-held (tr (p .trades .rows) m .buyer))))
+      → ((m : ℕ) → Not0 m → both-confirmed (trade-in (p .trades .rows) m) ≡ true → (0 < length (entries-held (trade-in (p .trades .rows) m .seller))) × (0 < length (entries-held (trade-in (p .trades .rows) m .buyer))))
       → 0 < length (chain-matches conf-line)
   ends-some h held =
       let nx = next (view p) in
       let pv = prev (view p) in
-      let sure-at : (m : ℕ) → Not0 m → first (view p) m ≡ first (view p) n → both-confirmed (tr (p .trades .rows) m) ≡ true =
+      let sure-at : (m : ℕ) → Not0 m → first (view p) m ≡ first (view p) n → both-confirmed (trade-in (p .trades .rows) m) ≡ true =
       λ m z e. sym (full-is p conf-half conf-there conf-walk m z) ∙ whole-any nx pv (full (view p)) conf-walk n m e h in
       let zf = far-not0 nx pv conf-walk n (k .some) in
       let zl = far-not0 pv nx (turned nx pv conf-walk) n (k .some) in
@@ -245,7 +246,7 @@ module _ (p : State) (n : ℕ) (k : Confirming p n) where
       matches-some _ _ (held (first (view p) n) zf (sure-at (first (view p) n) zf (far-far nx pv conf-walk n)) .0) bought-some
 
   pub completed-sound
-      : ((m : ℕ) → Not0 m → both-confirmed (tr (p .trades .rows) m) ≡ true → (0 < length (entries-held (tr (p .trades .rows) m .seller))) × (0 < length (entries-held (tr (p .trades .rows) m .buyer))))
+      : ((m : ℕ) → Not0 m → both-confirmed (trade-in (p .trades .rows) m) ≡ true → (0 < length (entries-held (trade-in (p .trades .rows) m .seller))) × (0 < length (entries-held (trade-in (p .trades .rows) m .buyer))))
       → length (chain-matches (chain-confirmed p (Some n))) ≤ length (issuer (chain-confirmed p (Some n)) p)
       → Sound (view (with-numbers (chain-confirmed p (Some n)) p))
   completed-sound held enough =

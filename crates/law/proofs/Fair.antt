@@ -7,17 +7,14 @@ use Rattle.book.specs.Entries.{kept-entry}
 use Rattle.book.specs.Numbering.{all-numbered, numbering, with-numbers, new-pairs}
 use Rattle.book.specs.Runs.{History}
 use Rattle.book.specs.State.{State, trade, at-trade}
-use Rattle.law.proofs.Subject.{Answer, Entry, Pair, Side, Buyer, Seller, Terms, or-else, is-some, Each, Table, find, changed, changed-in, Listed, Request, held, is-empty, total, entries-held, number, allocation, at-side, no-trade, numbered, Allocation, AllocationState, KeptEntry, Trade}
+use Rattle.law.proofs.Subject.{Answer, Entry, Pair, Side, Buyer, Seller, Terms, or-else, is-some, Each, Table, find, changed, changed-in, Listed, Request, held, is-empty, total, entries-held, number, allocation, at-side, no-trade, numbered, Allocation, AllocationState, KeptEntry, Trade, trade-in}
 use Rattle.law.specs.Law.{Agrees, Sides, Entitled-by, as-plain}
 use Rattle.law.specs.Plain.{PlainTrade, Plain, plain, plain-number, put, side-now, Touch, touch, is-side, Filling, last-filling, filling-entries, terms-in, terms-of, leaves, touched}
 
 -- ── What a side holds, by number ──
 
-abbrev pub found : List Trade → ℕ → Trade
-found ts n = or-else no-trade (find number n ts)
-
 abbrev pub held-in : List Trade → Side → ℕ → List KeptEntry
-held-in ts w n = held (allocation w (found ts n))
+held-in ts w n = held (allocation w (trade-in ts n))
 
 abbrev pub Adds : Side → Trade → Type 0
 Adds w t = is-empty (allocation w t .state) ≡ false → total (entries-held (allocation w t)) ≡ t .terms .quantity
@@ -72,7 +69,7 @@ told-by Seller g st h t = ap (λ (x : AllocationState). let y : PlainTrade = rec
 
 module _ (v : Side) (n : ℕ) (g : Trade → Allocation → Allocation) (ts : List Trade) where
   -- what the change leaves of every trade
-  pub terms-left : (m : ℕ) → found (changed number n (by v g) ts) m .terms ≡ found ts m .terms
+  pub terms-left : (m : ℕ) → trade-in (changed number n (by v g) ts) m .terms ≡ trade-in ts m .terms
   terms-left m = seen-kept number (by v g) (by-number v g) no-trade (λ (t : Trade). t .terms) n ts m (λ x e. by-terms v g x)
 
   pub there-left : (m : ℕ) → is-some (find number m (changed number n (by v g) ts)) ≡ is-some (find number m ts)

@@ -3,14 +3,15 @@ use Rattle.keyed.proofs.Keys.{row-changed, row-entered, row-removed}
 use Rattle.keyed.proofs.Lists.{mapped}
 use Rattle.keyed.proofs.Words.{Bool, true, false, cond, List, [], _∷_, ⊎-elim, _≡_, refl, sym, ap, ap₂, subst, _∙_, ℕ, eqb, cases-eq, ne-eqb, eq-eqb, both-ways, Option, Some, None}
 use Rattle.rows.proofs.Sides.{none-leg}
+use Rattle.rows.specs.Legs.{intermediation-in}
 use Rattle.chains.proofs.Walk.{Not0}
 use Rattle.book.specs.State.{State, trade, intermediation}
 use Rattle.law.proofs.Accepts.{Sound, walk-in, halves-of}
 use Rattle.law.proofs.Completed.{final-each}
 use Rattle.law.proofs.Fulls.{behind, each-behind, num-full, full-num, others-are, num-not0}
 use Rattle.law.proofs.PairLaw.{Full, Still-full}
-use Rattle.law.proofs.Shown.{tr, jo, view}
-use Rattle.law.proofs.Subject.{Intermediation, Side, Buyer, Seller, or-else, Each, find, changed, entered, removed, entries-held, id, leg, no-intermediation, number, allocation, is-numbered, no-trade, Trade}
+use Rattle.law.proofs.Shown.{view}
+use Rattle.law.proofs.Subject.{Intermediation, Side, Buyer, Seller, or-else, Each, find, changed, entered, removed, entries-held, id, leg, no-intermediation, number, allocation, is-numbered, no-trade, Trade, trade-in}
 use Rattle.law.proofs.Views.{next, prev, first}
 use Rattle.law.specs.Law.{final}
 
@@ -53,16 +54,16 @@ frozen-then s t u f k = record {
 
 -- a row changed that is not numbered, and one changed in nothing that counts
 pub changed-froze : (num : ℕ → Bool) (n : ℕ) (f : Trade → Trade) (ts : List Trade) → ((t : Trade) → number (f t) ≡ number t) → num n ≡ false
-    → (m : ℕ) → num m ≡ true → Same (tr (changed number n f ts) m) (tr ts m)
+    → (m : ℕ) → num m ≡ true → Same (trade-in (changed number n f ts) m) (trade-in ts m)
 changed-froze num n f ts keeps nn m h =
     same-path _ _ (ap (or-else no-trade) (row-changed number f keeps n ts m ∙ ap (λ b. cond b (mapped f (find number n ts)) (find number m ts)) (ne-eqb m n (λ e. both-ways _ nn (ap num (sym e) ∙ h)))))
 
-pub changed-alike : (n : ℕ) (f : Trade → Trade) (ts : List Trade) → ((t : Trade) → Same (f t) t) → (m : ℕ) → Same (tr (changed number n f ts) m) (tr ts m)
+pub changed-alike : (n : ℕ) (f : Trade → Trade) (ts : List Trade) → ((t : Trade) → Same (f t) t) → (m : ℕ) → Same (trade-in (changed number n f ts) m) (trade-in ts m)
 changed-alike n f ts same m =
     same-then _ _ _ (same-path _ _ (ap (or-else no-trade) (row-changed number f (λ t. ap (λ e. e .number) (same t .terms)) n ts m)))
-    (⊎-elim (λ (e : m ≡ n). subst (λ b. Same (or-else no-trade (cond b (mapped f (find number n ts)) (find number m ts))) (tr ts m)) (sym (eq-eqb _ _ e))
-    (subst (λ k. Same (or-else no-trade (mapped f (find number n ts))) (tr ts k)) (sym e) (go (find number n ts))))
-    (λ (e : m ≡ n → ⊥). subst (λ b. Same (or-else no-trade (cond b (mapped f (find number n ts)) (find number m ts))) (tr ts m)) (sym (ne-eqb _ _ e)) (same-self _))
+    (⊎-elim (λ (e : m ≡ n). subst (λ b. Same (or-else no-trade (cond b (mapped f (find number n ts)) (find number m ts))) (trade-in ts m)) (sym (eq-eqb _ _ e))
+    (subst (λ k. Same (or-else no-trade (mapped f (find number n ts))) (trade-in ts k)) (sym e) (go (find number n ts))))
+    (λ (e : m ≡ n → ⊥). subst (λ b. Same (or-else no-trade (cond b (mapped f (find number n ts)) (find number m ts))) (trade-in ts m)) (sym (ne-eqb _ _ e)) (same-self _))
     (cases-eq m n))
   where
     go : (o : Option Trade) → Same (or-else no-trade (mapped f o)) (or-else no-trade o)
@@ -71,11 +72,11 @@ changed-alike n f ts same m =
 
 -- no trade became numbered by a change
 pub changed-fewer : (n : ℕ) (f : Trade → Trade) (ts : List Trade) → ((t : Trade) → number (f t) ≡ number t) → ((t : Trade) → is-numbered (f t .state) ≡ true → is-numbered (t .state) ≡ true)
-    → (m : ℕ) → is-numbered (tr (changed number n f ts) m .state) ≡ true → is-numbered (tr ts m .state) ≡ true
+    → (m : ℕ) → is-numbered (trade-in (changed number n f ts) m .state) ≡ true → is-numbered (trade-in ts m .state) ≡ true
 changed-fewer n f ts keeps less m h =
     let k : is-numbered (or-else no-trade (cond (eqb m n) (mapped f (find number n ts)) (find number m ts)) .state) ≡ true =
     ap (λ o. is-numbered (or-else no-trade o .state)) (sym (row-changed number f keeps n ts m)) ∙ h in
-    ⊎-elim (λ (e : m ≡ n). subst (λ j. is-numbered (tr ts j .state) ≡ true) (sym e)
+    ⊎-elim (λ (e : m ≡ n). subst (λ j. is-numbered (trade-in ts j .state) ≡ true) (sym e)
     (go (find number n ts) (subst (λ b. is-numbered (or-else no-trade (cond b (mapped f (find number n ts)) (find number m ts)) .state) ≡ true) (eq-eqb _ _ e) k)))
     (λ (e : m ≡ n → ⊥). subst (λ b. is-numbered (or-else no-trade (cond b (mapped f (find number n ts)) (find number m ts)) .state) ≡ true) (ne-eqb _ _ e) k)
     (cases-eq m n)
@@ -86,7 +87,7 @@ changed-fewer n f ts keeps less m h =
 
 -- an intermediation entered, and one removed that holds nothing numbered
 pub entered-joints : (s : State) → Sound s → (x : Intermediation) → Not0 (x .id) → find id (x .id) (s .intermediations .rows) ≡ None
-    → (w : Side) (m : ℕ) → view s .num m ≡ true → jo (entered id x (s .intermediations .rows)) (allocation w (trade s m) .tie) ≡ intermediation s (allocation w (trade s m) .tie)
+    → (w : Side) (m : ℕ) → view s .num m ≡ true → intermediation-in (entered id x (s .intermediations .rows)) (allocation w (trade s m) .tie) ≡ intermediation s (allocation w (trade s m) .tie)
 entered-joints s g x z none w m h =
     ap (or-else no-intermediation) (row-entered id x (s .intermediations .rows) (allocation w (trade s m) .tie) none ∙ ap (λ b. cond b (Some x) (find id (allocation w (trade s m) .tie) (s .intermediations .rows))) (ne-eqb (allocation w (trade s m) .tie) (x .id) other))
   where
@@ -96,7 +97,7 @@ entered-joints s g x z none w m h =
         num-not0 s g m h (sym own ∙ ap (λ i. leg w (intermediation s i)) e ∙ ap (λ o. leg w (or-else no-intermediation o)) none ∙ none-leg w)
 
 pub removed-joints : (s : State) → Sound s → (i : ℕ) → Not0 i → view s .num (intermediation s i .bought) ≡ false → view s .num (intermediation s i .sold) ≡ false
-    → (w : Side) (m : ℕ) → view s .num m ≡ true → jo (removed id i (s .intermediations .rows)) (allocation w (trade s m) .tie) ≡ intermediation s (allocation w (trade s m) .tie)
+    → (w : Side) (m : ℕ) → view s .num m ≡ true → intermediation-in (removed id i (s .intermediations .rows)) (allocation w (trade s m) .tie) ≡ intermediation s (allocation w (trade s m) .tie)
 removed-joints s g i z nb ns w m h =
     ap (or-else no-intermediation) (row-removed id i (s .intermediations .rows) (allocation w (trade s m) .tie) 0 (g .intermediation-keys) ∙ ap (λ b. cond b None (find id (allocation w (trade s m) .tie) (s .intermediations .rows))) (ne-eqb (allocation w (trade s m) .tie) i (other w)))
   where

@@ -7,12 +7,12 @@ use Rattle.book.specs.Effects.{excluded, cancelled, placed, called-off, marked}
 use Rattle.book.specs.Entries.{whole-entry, kept-entry, shown, no-account, intermediated}
 use Rattle.book.specs.Numbering.{reply}
 use Rattle.book.specs.State.{State, trade, intermediation, at-trade}
-use Rattle.law.proofs.Fair.{found, Adds, Sided, Fair, plain-number-is, by, by-number, there-left, terms-left, terms-known}
+use Rattle.law.proofs.Fair.{Adds, Sided, Fair, plain-number-is, by, by-number, there-left, terms-left, terms-known}
 use Rattle.law.proofs.Legs.{none-left, fair-o, on-leg, confirm-leg, fill-leg, enter-joint, gone-if, holds-if, clear, excluded-fair, excluded-zero, excluded-joints, cancelled-fair}
 use Rattle.law.proofs.OneTrade.{next}
 use Rattle.law.proofs.Passed.{Confirms-both, Intermediates, Stands, calling-is}
 use Rattle.law.proofs.Picks.{those-same, any-same, picks, picked-gone, picked-any, passes-if, one-gone, one-any, names-picks}
-use Rattle.law.proofs.Subject.{Answer, Written, Marked, Entry, Intermediation, Side, Buyer, Seller, Terms, or-else, is-some, those, any, find, changed, removed, rises-above, Listed, account-in, tied-in, Cancellation, IntermediationCall, NewIntermediation, Cancel, Intermediate, ConfirmIntermediation, ExcludeIntermediation, active, suits, held, is-empty, confirmed, total, no-intermediation, id, leg, has-leg, number, allocation, party, no-trade, both-confirmed, Allocation, Empty, Confirmed, KeptEntry, Trade}
+use Rattle.law.proofs.Subject.{Answer, Written, Marked, Entry, Intermediation, Side, Buyer, Seller, Terms, or-else, is-some, those, any, find, changed, removed, rises-above, Listed, account-in, tied-in, Cancellation, IntermediationCall, NewIntermediation, Cancel, Intermediate, ConfirmIntermediation, ExcludeIntermediation, active, suits, held, is-empty, confirmed, total, no-intermediation, id, leg, has-leg, number, allocation, party, no-trade, both-confirmed, Allocation, Empty, Confirmed, KeptEntry, Trade, trade-in}
 use Rattle.law.specs.Law.{as-plain, Chains}
 use Rattle.law.specs.Plain.{touched, Plain, plain-number, side-now, sides-of-now, all-gone, names, fed, filled-as, holds-side, Filling, terms-in, empties, fills, leaves}
 
@@ -146,7 +146,7 @@ module _ (p : Plain) (o : Side → ℕ → Option Filling) (r : List Listed) (s 
     entries n = kept-entry r (the-share n) ∷ []
 
     -- a trade found after other sides were changed has the quantity that the plain book knows
-    quantity-known : (ts : List Trade) (n : ℕ) → found ts n .terms ≡ trade s n .terms → (t : Trade) → find number n ts ≡ Some t → t .terms .quantity ≡ terms-in p n .quantity
+    quantity-known : (ts : List Trade) (n : ℕ) → trade-in ts n .terms ≡ trade s n .terms → (t : Trade) → find number n ts ≡ Some t → t .terms .quantity ≡ terms-in p n .quantity
     quantity-known ts n e t here =
         ap (λ (y : Option Trade). or-else no-trade y .terms .quantity) (sym here) ∙ ap (λ (m : Terms). m .quantity) (e ∙ sym (terms-known p s (f .agrees) n))
 

@@ -1,21 +1,16 @@
 -- What the rows of a book show by number.
 use Rattle.keyed.proofs.Keys.{still-there}
 use Rattle.keyed.proofs.Words.{true, false, List, map, _≡_, refl, ap, fun-ext, _∙_, ℕ}
+use Rattle.rows.specs.Legs.{intermediation-in}
 use Rattle.chains.proofs.Puts.{put-map, put-same, look-put}
 use Rattle.chains.proofs.Walk.{put, Not0, Pair as Ends, pair}
 use Rattle.book.specs.Effects.{cancelled}
 use Rattle.book.specs.State.{State}
-use Rattle.law.proofs.Subject.{Intermediation, Pair, Side, Buyer, Seller, Terms, or-else, is-some, find, changed, other, id, no-intermediation, number, allocation, is-cancelled, is-numbered, no-trade, AllocationState, Trade}
+use Rattle.law.proofs.Subject.{Intermediation, Pair, Side, Buyer, Seller, Terms, is-some, find, changed, other, number, allocation, is-cancelled, is-numbered, no-trade, AllocationState, Trade, trade-in}
 use Rattle.law.proofs.Views.{View, Common, sides, with-sides, with-ties}
 
 abbrev pub common : Terms → Common
 common t = record { kind = t .kind; asset = t .asset; quantity = t .quantity; settlement = t .settlement }
-
-abbrev pub tr : List Trade → ℕ → Trade
-tr ts n = or-else no-trade (find number n ts)
-
-abbrev pub jo : List Intermediation → ℕ → Intermediation
-jo xs i = or-else no-intermediation (find id i xs)
 
 abbrev pub ends : Pair → Ends
 ends p = pair (p .first) (p .last) 0
@@ -23,15 +18,15 @@ ends p = pair (p .first) (p .last) 0
 abbrev pub shows : List Trade → List Intermediation → List Pair → View
 shows ts xs ps = record {
   present = λ n. is-some (find number n ts);
-  cancelled = λ n. is-cancelled (tr ts n .state);
-  num = λ n. is-numbered (tr ts n .state);
-  terms = λ n. common (tr ts n .terms);
-  buyer = λ n. tr ts n .buyer .state;
-  seller = λ n. tr ts n .seller .state;
-  buys = λ n. tr ts n .buyer .tie;
-  sells = λ n. tr ts n .seller .tie;
-  bought = λ i. jo xs i .bought;
-  sold = λ i. jo xs i .sold;
+  cancelled = λ n. is-cancelled (trade-in ts n .state);
+  num = λ n. is-numbered (trade-in ts n .state);
+  terms = λ n. common (trade-in ts n .terms);
+  buyer = λ n. trade-in ts n .buyer .state;
+  seller = λ n. trade-in ts n .seller .state;
+  buys = λ n. trade-in ts n .buyer .tie;
+  sells = λ n. trade-in ts n .seller .tie;
+  bought = λ i. intermediation-in xs i .bought;
+  sold = λ i. intermediation-in xs i .sold;
   pairs = map ends ps;
 }
 
@@ -82,15 +77,15 @@ module _ (n : ℕ) (f : Trade → Trade) (ts : List Trade) (keeps : (t : Trade) 
   none-after h = still-there number f keeps n ts 0 ∙ h
 
   module _ (here : Here n ts) (none : None0 ts) where
-    pub tr-put : (m : ℕ) → tr (changed number n f ts) m ≡ put n (f (tr ts n)) (tr ts) m
-    tr-put m = look-put number no-trade f keeps n ts here none m
+    pub trade-put : (m : ℕ) → trade-in (changed number n f ts) m ≡ put n (f (trade-in ts n)) (trade-in ts) m
+    trade-put m = look-put number no-trade f keeps n ts here none m
 
     -- a field that the change leaves, and one that it makes
-    pub left : {X : Type 0} (g : Trade → X) → (Not0 n → g (f (tr ts n)) ≡ g (tr ts n)) → (m : ℕ) → g (tr (changed number n f ts) m) ≡ g (tr ts m)
-    left g h m = ap g (tr-put m) ∙ put-map g n (f (tr ts n)) (tr ts) m ∙ put-same n (g (f (tr ts n))) (λ k. g (tr ts k)) m h
+    pub left : {X : Type 0} (g : Trade → X) → (Not0 n → g (f (trade-in ts n)) ≡ g (trade-in ts n)) → (m : ℕ) → g (trade-in (changed number n f ts) m) ≡ g (trade-in ts m)
+    left g h m = ap g (trade-put m) ∙ put-map g n (f (trade-in ts n)) (trade-in ts) m ∙ put-same n (g (f (trade-in ts n))) (λ k. g (trade-in ts k)) m h
 
-    pub made : {X : Type 0} (g : Trade → X) (x : X) → g (f (tr ts n)) ≡ x → (m : ℕ) → g (tr (changed number n f ts) m) ≡ put n x (λ k. g (tr ts k)) m
-    made g x h m = ap g (tr-put m) ∙ put-map g n (f (tr ts n)) (tr ts) m ∙ ap (λ y. put n y (λ k. g (tr ts k)) m) h
+    pub made : {X : Type 0} (g : Trade → X) (x : X) → g (f (trade-in ts n)) ≡ x → (m : ℕ) → g (trade-in (changed number n f ts) m) ≡ put n x (λ k. g (trade-in ts k)) m
+    made g x h m = ap g (trade-put m) ∙ put-map g n (f (trade-in ts n)) (trade-in ts) m ∙ ap (λ y. put n y (λ k. g (trade-in ts k)) m) h
 
 -- the same book with other sides
 abbrev pub re-sided : (ℕ → AllocationState) → (ℕ → AllocationState) → (ℕ → ℕ) → (ℕ → ℕ) → View → View
@@ -107,7 +102,7 @@ pub record Only (w : Side) (f : Trade → Trade) : Type 0 where
   pub across : (t : Trade) → allocation (other w) (f t) ≡ allocation (other w) t
 
 pub buyer-view : (n : ℕ) (f : Trade → Trade) (ts : List Trade) (xs : List Intermediation) (ps : List Pair) → Only Buyer f → Here n ts → None0 ts
-    → (x : AllocationState) → f (tr ts n) .buyer .state ≡ x → (i : ℕ) → f (tr ts n) .buyer .tie ≡ i
+    → (x : AllocationState) → f (trade-in ts n) .buyer .state ≡ x → (i : ℕ) → f (trade-in ts n) .buyer .tie ≡ i
     → shows (changed number n f ts) xs ps ≡ re-sided (put n x (shows ts xs ps .buyer)) (shows ts xs ps .seller) (put n i (shows ts xs ps .buys)) (shows ts xs ps .sells) (shows ts xs ps)
 buyer-view n f ts xs ps o h z x ex i ei =
     let keeps : (t : Trade) → number (f t) ≡ number t = λ t. ap (λ (e : Terms). e .number) (o .terms t) in
@@ -117,16 +112,16 @@ buyer-view n f ts xs ps o h z x ex i ei =
       num = left n f ts keeps h z (λ t. is-numbered (t .state)) (λ _. ap is-numbered (o .state _));
       terms = left n f ts keeps h z (λ t. common (t .terms)) (λ _. ap common (o .terms _));
       buyer = made n f ts keeps h z (λ t. t .buyer .state) x ex;
-      seller = left n f ts keeps h z (λ t. t .seller .state) (λ _. ap (λ d. d .state) (o .across (tr ts n)));
+      seller = left n f ts keeps h z (λ t. t .seller .state) (λ _. ap (λ d. d .state) (o .across (trade-in ts n)));
       buys = made n f ts keeps h z (λ t. t .buyer .tie) i ei;
-      sells = left n f ts keeps h z (λ t. t .seller .tie) (λ _. ap (λ d. d .tie) (o .across (tr ts n)));
+      sells = left n f ts keeps h z (λ t. t .seller .tie) (λ _. ap (λ d. d .tie) (o .across (trade-in ts n)));
       bought = λ m. refl;
       sold = λ m. refl;
       pairs = refl;
     })
 
 pub seller-view : (n : ℕ) (f : Trade → Trade) (ts : List Trade) (xs : List Intermediation) (ps : List Pair) → Only Seller f → Here n ts → None0 ts
-    → (x : AllocationState) → f (tr ts n) .seller .state ≡ x → (i : ℕ) → f (tr ts n) .seller .tie ≡ i
+    → (x : AllocationState) → f (trade-in ts n) .seller .state ≡ x → (i : ℕ) → f (trade-in ts n) .seller .tie ≡ i
     → shows (changed number n f ts) xs ps ≡ re-sided (shows ts xs ps .buyer) (put n x (shows ts xs ps .seller)) (shows ts xs ps .buys) (put n i (shows ts xs ps .sells)) (shows ts xs ps)
 seller-view n f ts xs ps o h z x ex i ei =
     let keeps : (t : Trade) → number (f t) ≡ number t = λ t. ap (λ (e : Terms). e .number) (o .terms t) in
@@ -135,9 +130,9 @@ seller-view n f ts xs ps o h z x ex i ei =
       cancelled = left n f ts keeps h z (λ t. is-cancelled (t .state)) (λ _. ap is-cancelled (o .state _));
       num = left n f ts keeps h z (λ t. is-numbered (t .state)) (λ _. ap is-numbered (o .state _));
       terms = left n f ts keeps h z (λ t. common (t .terms)) (λ _. ap common (o .terms _));
-      buyer = left n f ts keeps h z (λ t. t .buyer .state) (λ _. ap (λ d. d .state) (o .across (tr ts n)));
+      buyer = left n f ts keeps h z (λ t. t .buyer .state) (λ _. ap (λ d. d .state) (o .across (trade-in ts n)));
       seller = made n f ts keeps h z (λ t. t .seller .state) x ex;
-      buys = left n f ts keeps h z (λ t. t .buyer .tie) (λ _. ap (λ d. d .tie) (o .across (tr ts n)));
+      buys = left n f ts keeps h z (λ t. t .buyer .tie) (λ _. ap (λ d. d .tie) (o .across (trade-in ts n)));
       sells = made n f ts keeps h z (λ t. t .seller .tie) i ei;
       bought = λ m. refl;
       sold = λ m. refl;
@@ -168,7 +163,7 @@ module _ (a c : ℕ) (f g : Trade → Trade) (ts : List Trade) (xs : List Interm
       → ((t : Trade) → f t .buyer .tie ≡ t .buyer .tie) → ((t : Trade) → g t .seller .tie ≡ t .seller .tie)
       → shows (changed number c g (changed number a f ts)) xs ps ≡ sides a c x (shows ts xs ps)
   both-kept x fx gx fi gi =
-      seller-view c g (changed number a f ts) xs ps og (here-after a f ts kf c hc) (none-after a f ts kf z) x (gx _) (tr (changed number a f ts) c .seller .tie) (gi _)
+      seller-view c g (changed number a f ts) xs ps og (here-after a f ts kf c hc) (none-after a f ts kf z) x (gx _) (trade-in (changed number a f ts) c .seller .tie) (gi _)
       ∙ ap (λ (v : View). re-sided (v .buyer) (put c x (v .seller)) (v .buys) (put c (v .sells c) (v .sells)) v)
-      (buyer-view a f ts xs ps of ha z x (fx _) (tr ts a .buyer .tie) (fi _))
-      ∙ same-sides (shows ts xs ps) (λ m. refl) (λ m. refl) (λ m. put-same a (tr ts a .buyer .tie) (λ k. tr ts k .buyer .tie) m (λ _. refl)) (λ m. put-same c (tr ts c .seller .tie) (λ k. tr ts k .seller .tie) m (λ _. refl))
+      (buyer-view a f ts xs ps of ha z x (fx _) (trade-in ts a .buyer .tie) (fi _))
+      ∙ same-sides (shows ts xs ps) (λ m. refl) (λ m. refl) (λ m. put-same a (trade-in ts a .buyer .tie) (λ k. trade-in ts k .buyer .tie) m (λ _. refl)) (λ m. put-same c (trade-in ts c .seller .tie) (λ k. trade-in ts k .seller .tie) m (λ _. refl))

@@ -14,7 +14,7 @@ use Rattle.law.proofs.Accepts.{Sound, Ends-hold, walk-in}
 use Rattle.law.proofs.Bridge.{joined-yes, joined-no}
 use Rattle.law.proofs.ChainLaw.{chains}
 use Rattle.law.proofs.ChainRows.{Found}
-use Rattle.law.proofs.Chained.{tie-at, ahead, tr-number}
+use Rattle.law.proofs.Chained.{tie-at, ahead, trade-number}
 use Rattle.law.proofs.Completed.{paired-after, at-confirmed, final-last}
 use Rattle.law.proofs.Completes.{Confirming, conf-half, conf-there, conf-walk, conf-none, conf-here, conf-open, conf-line, conf-first, numbering-view}
 use Rattle.law.proofs.Events.{Unnumbered}
@@ -26,8 +26,8 @@ use Rattle.law.proofs.PairLaw.{Full, pairs-unchanged, pairs-written, chain-sam
 use Rattle.law.proofs.Passed.{Enough, Passed}
 use Rattle.law.proofs.Placed.{Leaves}
 use Rattle.law.proofs.Quantities.{Sound-trade}
-use Rattle.law.proofs.Shown.{tr, ends, view}
-use Rattle.law.proofs.Subject.{numbers, Pair, Side, Buyer, Seller, is-some, those, Each, Table, find, Listed, Request, Capture, Cancel, Include, Remove, Confirm, Intermediate, ConfirmIntermediation, ExcludeIntermediation, Close, is-confirmed, total, entries-held, number, numbered, Trade}
+use Rattle.law.proofs.Shown.{ends, view}
+use Rattle.law.proofs.Subject.{numbers, Pair, Side, Buyer, Seller, is-some, those, Each, Table, find, Listed, Request, Capture, Cancel, Include, Remove, Confirm, Intermediate, ConfirmIntermediation, ExcludeIntermediation, Close, is-confirmed, total, entries-held, number, numbered, Trade, trade-in}
 use Rattle.law.proofs.Views.{View, next, prev, first, whole-chain, numbered as numbered-view}
 use Rattle.law.specs.Law.{Sides, Pairs, final, pairs-of}
 
@@ -56,7 +56,7 @@ enough r s (Close q) e n c = absurd (none-some n c)
 
 -- ── Numbering leaves the parts ──
 
-rows-alike : (c : List Trade) (t : Table Trade) (m : ℕ) → Same (tr (all-numbered c t .rows) m) (tr (t .rows) m)
+rows-alike : (c : List Trade) (t : Table Trade) (m : ℕ) → Same (trade-in (all-numbered c t .rows) m) (trade-in (t .rows) m)
 rows-alike [] t m = same-self _
 rows-alike (u ∷ c) t m =
     same-then _ _ _ (rows-alike c _ m) (changed-alike (number u) numbered (t .rows) (λ x. record { terms = refl; numbered = λ _. refl; buyer = refl; seller = refl }) m)
@@ -89,7 +89,7 @@ module _ (b : Beginning) (h : History) (s : State) (g : Sound s) (law : Pairs b 
     f = first (view p) n
 
     abbrev us : List Trade
-    us = map (tr (p .trades .rows)) (ahead (p .trades .rows) (p .intermediations .rows) (conf-half p n conf) (conf-there p n conf) Buyer (first (view p) n))
+    us = map (trade-in (p .trades .rows)) (ahead (p .trades .rows) (p .intermediations .rows) (conf-half p n conf) (conf-there p n conf) Buyer (first (view p) n))
 
     abbrev t : State
     t = numbering (conf-line p n conf) p
@@ -105,13 +105,13 @@ module _ (b : Beginning) (h : History) (s : State) (g : Sound s) (law : Pairs b 
         let there : (j : ℕ) → Not0 (nx j) → is-some (find number (nx j) ts) ≡ true = λ j y. conf-there p n conf Seller (tie-at ts Buyer j) y in
         ⊎-elim (λ (e : nx a ≡ 0). rw (eq-eqb _ _ e) refl)
         (λ (e : Not0 (nx a)).
-        ⊎-elim (λ (d : nx (nx a) ≡ 0). rw (ne-eqb _ _ e, eq-eqb _ _ d) (ap (λ j. j ∷ []) (tr-number ts (nx a) (there a e))))
-        (λ (d : Not0 (nx (nx a))). rw (ne-eqb _ _ e, ne-eqb _ _ d) (ap₂ (λ i j. i ∷ (j ∷ [])) (tr-number ts (nx a) (there a e)) (tr-number ts (nx (nx a)) (there (nx a) d))))
+        ⊎-elim (λ (d : nx (nx a) ≡ 0). rw (ne-eqb _ _ e, eq-eqb _ _ d) (ap (λ j. j ∷ []) (trade-number ts (nx a) (there a e))))
+        (λ (d : Not0 (nx (nx a))). rw (ne-eqb _ _ e, ne-eqb _ _ d) (ap₂ (λ i j. i ∷ (j ∷ [])) (trade-number ts (nx a) (there a e)) (trade-number ts (nx (nx a)) (there (nx a) d))))
         (cases-eq (nx (nx a)) 0))
         (cases-eq (nx a) 0)
 
     abbrev x : Trade
-    x = tr (p .trades .rows) (first (view p) n)
+    x = trade-in (p .trades .rows) (first (view p) n)
 
     is-first : number x ≡ f
     is-first = conf-first p n conf

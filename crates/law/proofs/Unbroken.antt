@@ -17,7 +17,7 @@ use Rattle.book.specs.Steps.{outcome, step}
 use Rattle.book.specs.Verdicts.{intermediation-verdict, leg-verdict, legs-verdict, on-side-verdict, own-verdict, trade-verdict, two-legs-verdict, verdict}
 use Rattle.law.proofs.Accepts.{Sound, any-leg-is, halves-of, numbers-are, there-of, walk-in, legged}
 use Rattle.law.proofs.ChainLaw.{next-link}
-use Rattle.law.proofs.Chained.{chain-is, jo-id, tie-at}
+use Rattle.law.proofs.Chained.{chain-is, intermediation-id, tie-at}
 use Rattle.law.proofs.Confirms.{leg-left, leg-right}
 use Rattle.law.proofs.Every.{held-begun, held-ran}
 use Rattle.law.proofs.Fulls.{behind, each-behind, others-are}
@@ -64,7 +64,7 @@ module _ (s : State) (g : Sound s) where
   leg-held i h w =
       ⊎-elim (λ (z : leg w (intermediation s i) ≡ 0). rw (eq-eqb _ _ z) refl)
       (λ (z : Not0 (leg w (intermediation s i))).
-      rw (ne-eqb _ _ z) (and-from _ _ (there-of s g w i z) (eq-eqb _ _ (halves-of s g w .forth i z ∙ sym (jo-id (s .intermediations .rows) i h)))))
+      rw (ne-eqb _ _ z) (and-from _ _ (there-of s g w i z) (eq-eqb _ _ (halves-of s g w .forth i z ∙ sym (intermediation-id (s .intermediations .rows) i h)))))
       (cases-eq (leg w (intermediation s i)) 0)
 
   any-there : (i : ℕ) → Tables s → is-some (find id i (s .intermediations .rows)) ≡ true → is-some (find number (any-leg (intermediation s i)) (s .trades .rows)) ≡ true
