@@ -1,7 +1,7 @@
 -- What a changed row does to what is seen of the rows by number, where 0 stands for none.
+use Rattle.keyed.proofs.Words.{List, None, ap, cases-eq, eq-eqb, false, ne-eqb, refl, sym, true, ℕ, _∙_, _≡_, ⊎-elim}
 use Rattle.keyed.proofs.Keys.{row-changed}
 use Rattle.keyed.proofs.Lists.{none-by, some-of, mapped}
-use Rattle.keyed.proofs.Words.{List, None, ap, cases-eq, eq-eqb, false, ne-eqb, refl, sym, true, ℕ, _∙_, _≡_, ⊎-elim}
 use Rattle.keyed.specs.Lists.{is-some, or-else}
 use Rattle.keyed.specs.Rows.{find, changed}
 use Rattle.chains.proofs.Ties.{put-on}

@@ -1,7 +1,7 @@
 -- What a changed, an entered and a removed row do to what is found by key.
+use Rattle.keyed.proofs.Words.{and-from, ltb-false, Bool, true, false, cond, List, [], _∷_, map, inl, inr, ⊎-elim, _≡_, refl, sym, ap, subst, _∙_, ℕ, suc, _+_, _-_, _≤_, _<_, arith, eqb, ltb, length, cases-eq, cases-bool, ne-eqb, eq-eqb, and-parts, ltb-true, Option, Some, None}
 use Rattle.std.proofs.shelf.Tests.{lt-ltb}
 use Rattle.keyed.proofs.Lists.{each-in, is-some-mapped, none-some, some-same, mapped}
-use Rattle.keyed.proofs.Words.{and-from, ltb-false, Bool, true, false, cond, List, [], _∷_, map, inl, inr, ⊎-elim, _≡_, refl, sym, ap, subst, _∙_, ℕ, suc, _+_, _-_, _≤_, _<_, arith, eqb, ltb, length, cases-eq, cases-bool, ne-eqb, eq-eqb, and-parts, ltb-true, Option, Some, None}
 use Rattle.keyed.specs.Lists.{or-else, is-some}
 use Rattle.keyed.specs.Members.{Each, In}
 use Rattle.keyed.specs.Rows.{find, changed, removed, entered, rises-above}

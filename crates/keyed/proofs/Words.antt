@@ -7,7 +7,7 @@ pub use Prim.Native.Nat.{_+_, _-_, _<_, _≤_, suc, zero, ℕ}
 pub use native.Mathlib.Omega.{arith}
 pub use lib.Dec.{eqb, ltb}
 pub use lib.ListN.{drop, length, take}
-pub use Rattle.std.proofs.shelf.Lists.{take-append-drop, take-at}
+pub use Rattle.std.proofs.shelf.Lists.{take-append-drop}
 pub use Rattle.std.proofs.shelf.Tests.{and-from, and-parts, both-ways, cases-bool, cases-eq, cond-both, eq-eqb, eqb-false, eqb-true, false≢true, ltb-false, ltb-true, ne-eqb, not-true, or-cases}
 pub use Rattle.std.specs.declared.option.Option.{Option}
 pub use Rattle.std.specs.declared.option.Option.the-variants.{None, Some}

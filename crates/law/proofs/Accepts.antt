@@ -1,9 +1,11 @@
 -- Every accepted request keeps the book sound.
+use Rattle.keyed.proofs.Words.{Bool, true, false, not, _&&_, _||_, cond, List, [], _∷_, map, ⊎-elim, _≡_, refl, sym, ap, ap₂, subst, _∙_, ℕ, _+_, _≤_, _<_, arith, eqb, length, cond-both, cases-eq, eqb-false, eq-eqb, both-ways, and-parts, and-from, or-cases, not-true, Option, Some, None}
+use Rattle.law.proofs.Subject.{numbers, Intermediation, Side, Buyer, Seller, Terms, or-else, is-some, any, In, Table, find, changed, removed-in, rises-above, Listed, Cancellation, Inclusion, IntermediationCall, NewIntermediation, NewTrade, Request, Capture, Cancel, Include, Remove, Confirm, Intermediate, ConfirmIntermediation, ExcludeIntermediation, Close, SideCall, is-confirmed, emptied, confirmed, entries-held, good-intermediation, has-leg, id, no-intermediation, any-leg, both-legs, number, allocation, at-side, numbered, captured, both-confirmed, alike, numbered-in, Allocation, AllocationState, Empty, Confirmed, KeptEntry, Trade}
 use Rattle.keyed.proofs.Keys.{rises-changed, rises-entered, rises-removed, below-absent, row-found}
 use Rattle.keyed.proofs.Lists.{none-by, some-of, all-in, none-some, some-same}
-use Rattle.keyed.proofs.Words.{Bool, true, false, not, _&&_, _||_, cond, List, [], _∷_, map, ⊎-elim, _≡_, refl, sym, ap, ap₂, subst, _∙_, ℕ, _+_, _≤_, _<_, arith, eqb, length, cond-both, cases-eq, eqb-false, eq-eqb, both-ways, and-parts, and-from, or-cases, not-true, Option, Some, None}
 use Rattle.rows.proofs.Sides.{alike-parts, filled-state, filled-tie}
 use Rattle.rows.specs.Legs.{leg as leg-of}
+use Rattle.rows.specs.declared.row.AllocationState.the-variants.{Allocated}
 use Rattle.chains.proofs.Walk.{put, Not0, Walk, Half, count}
 use Rattle.chains.proofs.Walks.{put-cases, put-at, member}
 use Rattle.book.specs.Effects.{excluded, cancelled, placed, called-off, marked, excluded-by}
@@ -19,7 +21,6 @@ use Rattle.law.proofs.Kept.{walk, sides-kept, voided-kept, captured-kept, link
 use Rattle.law.proofs.Opens.{not-num, num-buyer, num-seller, num-next-not, num-prev-not, side-alone, gone-b, gone-s, open-not, self-s, cancel-one}
 use Rattle.law.proofs.Passed.{Captures, Confirms, Confirms-both, Excludes, Free, Includes, Intermediates, Passed, Stands, Tables, leg-is-there}
 use Rattle.law.proofs.Shown.{common, view, None0, both-kept}
-use Rattle.law.proofs.Subject.{numbers, Intermediation, Side, Buyer, Seller, Terms, or-else, is-some, any, In, Table, find, changed, removed-in, rises-above, Listed, Cancellation, Inclusion, IntermediationCall, NewIntermediation, NewTrade, Request, Capture, Cancel, Include, Remove, Confirm, Intermediate, ConfirmIntermediation, ExcludeIntermediation, Close, SideCall, is-confirmed, emptied, confirmed, entries-held, good-intermediation, has-leg, id, no-intermediation, any-leg, both-legs, number, allocation, at-side, numbered, captured, both-confirmed, alike, numbered-in, Allocation, AllocationState, Empty, Allocated, Confirmed, KeptEntry, Trade}
 use Rattle.law.proofs.Views.{View, sure, next, prev, first, sides, link, exclude, leg, live, Sound as Seen}
 
 -- what every request keeps: what the rows show is sound, and the keys rise

@@ -1,8 +1,9 @@
 -- The pairs of a completed chain are as the law asks. Assumes nothing.
+use Rattle.keyed.proofs.Words.{true, false, cond, List, [], _∷_, _++_, map, _≡_, refl, sym, ap, subst, _∙_, ℕ, _<_, _≤_, arith, length, and-parts, Option, Some, None}
+use Rattle.law.proofs.Subject.{Side, Buyer, Seller, or-else, Each, Table, find, changed-in, is-empty, is-confirmed, total, entries-held, number, allocation, both-confirmed, alike, numbered, no-trade, Trade, all, trade-in}
 use mathlib.Core.Bool.{false≢true}
 use Rattle.keyed.proofs.Keys.{each-row}
 use Rattle.keyed.proofs.Lists.{each-map}
-use Rattle.keyed.proofs.Words.{true, false, cond, List, [], _∷_, _++_, map, _≡_, refl, sym, ap, subst, _∙_, ℕ, _<_, _≤_, arith, length, and-parts, Option, Some, None}
 use Rattle.rows.proofs.Sides.{alike-parts, confirmed-filled, some-entries}
 use Rattle.chains.proofs.Matches.{Level, pairs-paired}
 use Rattle.chains.specs.Following.{last-of}
@@ -15,7 +16,6 @@ use Rattle.law.proofs.Events.{Unnumbered}
 use Rattle.law.proofs.Histories.{Issued, begun-before}
 use Rattle.law.proofs.PairLaw.{Full}
 use Rattle.law.proofs.Quantities.{Sound-trade, each-changed}
-use Rattle.law.proofs.Subject.{Side, Buyer, Seller, or-else, Each, Table, find, changed-in, is-empty, is-confirmed, total, entries-held, number, allocation, both-confirmed, alike, numbered, no-trade, Trade, all, trade-in}
 use Rattle.law.specs.Law.{Sides, Linked, Chains, final, begun-for}
 use Rattle.law.specs.Plain.{given}
 

@@ -1,9 +1,9 @@
 -- A call that confirms leaves the book sound: a chain that it completes is numbered.
+use Rattle.keyed.proofs.Words.{true, false, cond, List, [], _∷_, _++_, map, inl, inr, ⊎-elim, _≡_, refl, sym, ap, ap₂, subst, fun-ext, _∙_, ℕ, zero, suc, _+_, _≤_, _<_, arith, length, cases-eq, cases-bool, ne-eqb, eq-eqb, and-parts, not-true, false≢true, Some, None}
+use Rattle.law.proofs.Subject.{intermediation-in, Entry, Intermediation, Pair, Side, Buyer, Seller, or-else, is-some, all, Table, find, changed, entries-held, number, numbered, both-confirmed, Confirmed, Trade, trade-in}
 use mathlib.Core.List.{map-append}
 use Rattle.keyed.proofs.Keys.{row-past}
 use Rattle.keyed.proofs.Lists.{none-by, none-some}
-use Rattle.keyed.proofs.Words.{true, false, cond, List, [], _∷_, _++_, map, inl, inr, ⊎-elim, _≡_, refl, sym, ap, ap₂, subst, fun-ext, _∙_, ℕ, zero, suc, _+_, _≤_, _<_, arith, length, cases-eq, cases-bool, ne-eqb, eq-eqb, and-parts, not-true, false≢true, Some, None}
-use Rattle.rows.specs.Legs.{intermediation-in}
 use Rattle.chains.proofs.Walk.{put, Not0, Walk, Half, Among, Pair as Ends, pair}
 use Rattle.chains.proofs.Walks.{put-cases, far-not0, far-keeps, far-far, far-across, whole-parts, whole-any, turned}
 use Rattle.chains.specs.Following.{first-of, last-of}
@@ -16,7 +16,6 @@ use Rattle.law.proofs.Chained.{tie-at, leg-at, line, chain-is, all-line, last-
 use Rattle.law.proofs.Confirms.{leg-left, leg-right, part-kept, whole-kept}
 use Rattle.law.proofs.Kept.{walk, full-none, full-parts, bought-live, sold-live}
 use Rattle.law.proofs.Shown.{ends, shows, view, Here, None0, here-after, none-after}
-use Rattle.law.proofs.Subject.{Entry, Intermediation, Pair, Side, Buyer, Seller, or-else, is-some, all, Table, find, changed, entries-held, number, numbered, both-confirmed, Confirmed, Trade, trade-in}
 use Rattle.law.proofs.Views.{re-numbered, View, sure, next, prev, full, full-by, first, last, whole-chain, sides, numbered as numbered-view, leg, live, Sound, with-pairs}
 
 changed-none : (n : ℕ) (f : Trade → Trade) (ts : List Trade) → find number n ts ≡ None → changed number n f ts ≡ ts

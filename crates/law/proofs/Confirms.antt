@@ -1,10 +1,10 @@
 -- A confirmation keeps the book sound.
 use Rattle.keyed.proofs.Words.{true, false, List, _⊎_, inl, inr, ⊎-elim, _≡_, refl, sym, ap, _∙_, ℕ, cases-eq, ne-eqb, eq-eqb}
+use Rattle.law.proofs.Subject.{Empty, Confirmed}
 use Rattle.chains.proofs.Numbering.{confirmed-part, confirmed-whole}
 use Rattle.chains.proofs.Walk.{put, Not0, Walk, Pair, Among}
 use Rattle.chains.proofs.Walks.{put-cases, far-next}
 use Rattle.law.proofs.Kept.{walk, full-parts, full-made, blank-kept}
-use Rattle.law.proofs.Subject.{Empty, Confirmed}
 use Rattle.law.proofs.Views.{View, sure, next, prev, full-by, full, first, last, whole-chain, sides, numbered, leg, live, Sound}
 
 pub leg-left : (a c : ℕ) → Not0 a → leg a c ≡ a

@@ -1,5 +1,6 @@
 -- Every run is lawful.
 use Rattle.keyed.proofs.Words.{true, false, cond, _&&_, List, [], _∷_, _⊎_, inl, inr, ⊎-elim, _≡_, refl, sym, ap, subst, _∙_, ℕ, _≤_, eqb, length, cases-bool, Option, Some, None, Ok}
+use Rattle.law.proofs.Subject.{Refusal, those, Each, Listed, Request, Capture, Cancel, Include, Remove, Confirm, Intermediate, ConfirmIntermediation, ExcludeIntermediation, Close, Trade}
 use Rattle.book.specs.Effects.{placed}
 use Rattle.book.specs.Numbering.{reply, if-all-confirmed, chain-confirmed, completed, chain-matches, issuer, with-numbers, confirms-in, effect}
 use Rattle.book.specs.Runs.{History, Beginning, Call, event, rows-named, Run, stepped, ran, begun}
@@ -23,7 +24,6 @@ use Rattle.law.proofs.Quantities.{placed-sound}
 use Rattle.law.proofs.Shown.{view}
 use Rattle.law.proofs.SidesKept.{Kept, placed-fair, accepted as kept-accepted, refused as kept-refused}
 use Rattle.law.proofs.Steps.{ends-hold, enough, unchanged, written, Old-pairs, old-pairs, with-numbers-frozen}
-use Rattle.law.proofs.Subject.{Refusal, those, Each, Listed, Request, Capture, Cancel, Include, Remove, Confirm, Intermediate, ConfirmIntermediation, ExcludeIntermediation, Close, Trade}
 use Rattle.law.proofs.Views.{whole-chain}
 use Rattle.law.specs.Law.{Sides, Pairs, Every-run-lawful, final}
 use Rattle.law.specs.Plain.{closes, plain, last-filling}

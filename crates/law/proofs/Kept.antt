@@ -1,10 +1,10 @@
 -- Each part of a request keeps the book sound.
 use Rattle.keyed.proofs.Words.{Bool, true, false, not, _&&_, _⊎_, inl, inr, ⊎-elim, _≡_, refl, sym, ap, ap₂, subst, fun-ext, _∙_, ℕ, _+_, _≤_, cases-eq, cases-bool, eq-eqb, ne-eqb, both-ways, and-parts, false≢true}
+use Rattle.law.proofs.Subject.{AllocationState, Empty}
 use Rattle.chains.proofs.Numbering.{relinked, refilled}
 use Rattle.chains.proofs.Ties.{walk-of, half-linked, half-unlinked, next-linked, next-unlinked, short-cut, short-linked, count-fits, first-is}
 use Rattle.chains.proofs.Walk.{put, Not0, Walk, Half, count}
 use Rattle.chains.proofs.Walks.{put-cases, put-at, put-off, whole-each}
-use Rattle.law.proofs.Subject.{AllocationState, Empty}
 use Rattle.law.proofs.Views.{View, Common, sure, next, prev, full-by, full, first, whole-chain, sides, link, unlink, captured, voided, exclude, nothing, live, Sound}
 
 pub walk : (v : View) → Sound v → Walk (next v) (prev v)

@@ -1,10 +1,10 @@
 -- What is not numbered, in a sound book seen by numbers.
 use Rattle.keyed.proofs.Words.{true, false, _&&_, ⊎-elim, _≡_, refl, sym, ap, _∙_, ℕ, cases-eq, cases-bool, both-ways}
+use Rattle.law.proofs.Subject.{Side, Buyer, Seller}
 use Rattle.chains.proofs.Walk.{Not0}
 use Rattle.chains.proofs.Walks.{put-cases, put-off}
 use Rattle.law.proofs.Bridge.{as-bought, as-sold}
 use Rattle.law.proofs.Kept.{walk, full-parts, exclude-kept}
-use Rattle.law.proofs.Subject.{Side, Buyer, Seller}
 use Rattle.law.proofs.Views.{View, sure, next, prev, exclude, Sound}
 
 module _ (v : View) (s : Sound v) where

@@ -1,10 +1,11 @@
 -- What is known of a request that was accepted: the tests that the law rests on, by name.
+use Rattle.keyed.proofs.Words.{Bool, cond, false, not, true, _||_, List, [], map, _∷_, ap, refl, subst, sym, _≡_, ℕ, _+_, _≤_, arith, eqb, length, and-parts, eqb-true, ne-eqb, not-true, false≢true, Option, None, Some}
+use Rattle.law.proofs.Subject.{in-range, numbers, quantities, numbers-or-none, Refusal, Entry, Intermediation, Side, Buyer, Seller, Terms, all, any, is-some, Each, Table, find, rises-above, Listed, account-in, tied-in, Inclusion, IntermediationCall, NewIntermediation, NewTrade, Request, Cancel, Capture, Close, Confirm, ConfirmIntermediation, ExcludeIntermediation, Include, Intermediate, Remove, SideCall, active, suits, is-confirmed, is-empty, total, good-intermediation, good-trade, any-leg, both-legs, each-leg, has-leg, id, leg, alike, allocation, is-cancelled, number, numbered-in, party, trade-in, AllocationState, Trade}
 use Rattle.std.proofs.shelf.Tests.{leb-true}
-use Rattle.fields.specs.Ranges.{minutes}
+use Rattle.fields.specs.Ranges.{minutes, participants}
 use Rattle.fields.specs.declared.account.Party.{Party}
 use Rattle.fields.specs.declared.range.Range.{Range}
 use Rattle.keyed.proofs.Lists.{none-some, some-of}
-use Rattle.keyed.proofs.Words.{Bool, cond, false, not, true, _||_, List, [], map, _∷_, ap, refl, subst, sym, _≡_, ℕ, _+_, _≤_, arith, eqb, length, and-parts, eqb-true, ne-eqb, not-true, false≢true, Option, None, Some}
 use Rattle.keyed.specs.Rows.{whole}
 use Rattle.rows.specs.InUse.{stands}
 use Rattle.rows.specs.Legs.{leg-state}
@@ -18,7 +19,6 @@ use Rattle.book.specs.Numbering.{chain-matches, completed, issuer}
 use Rattle.book.specs.State.{State, intermediation, trade}
 use Rattle.book.specs.Tests.{in-turn, only-if}
 use Rattle.book.specs.Verdicts.{account-verdict, capture-verdict, completed-verdict, each-leg-verdict, empty-verdict, entries-verdict, entry-verdict, id-verdict, inclusion-verdict, intermediary-verdict, intermediation-verdict, leg-tied-verdict, leg-verdict, legs-verdict, numbers-verdict, on-side-verdict, own-verdict, side-verdict, sides-verdict, tables-verdict, ties-verdict, trade-verdict, two-legs-verdict, unnumbered-verdict, verdict}
-use Rattle.law.proofs.Subject.{in-range, numbers, quantities, participants, numbers-or-none, Refusal, Entry, Intermediation, Side, Buyer, Seller, Terms, all, any, is-some, Each, Table, find, rises-above, Listed, account-in, tied-in, Inclusion, IntermediationCall, NewIntermediation, NewTrade, Request, Cancel, Capture, Close, Confirm, ConfirmIntermediation, ExcludeIntermediation, Include, Intermediate, Remove, SideCall, active, suits, is-confirmed, is-empty, total, good-intermediation, good-trade, any-leg, both-legs, each-leg, has-leg, id, leg, alike, allocation, is-cancelled, number, numbered-in, party, trade-in, AllocationState, Trade}
 use Rattle.law.specs.Law.{Entitled}
 
 -- ── Verdicts ──

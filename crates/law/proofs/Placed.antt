@@ -1,7 +1,8 @@
 -- An accepted request leaves what is numbered, and numbers nothing before it completes a chain.
+use Rattle.keyed.proofs.Words.{Bool, true, false, cond, List, ⊎-elim, _≡_, refl, sym, ap, subst, _∙_, ℕ, arith, eqb, cond-both, cases-eq, ne-eqb, eq-eqb, both-ways, false≢true, Option, Some, None}
+use Rattle.law.proofs.Subject.{Intermediation, Side, Buyer, Seller, or-else, is-some, find, changed, Listed, IntermediationCall, NewIntermediation, Request, Capture, Cancel, Include, Remove, Confirm, Intermediate, ConfirmIntermediation, ExcludeIntermediation, Close, is-confirmed, emptied, confirmed, id, no-intermediation, any-leg, number, allocation, is-numbered, no-trade, at-side, captured, both-confirmed, Allocation, Trade}
 use Rattle.keyed.proofs.Keys.{row-entered, below-absent}
 use Rattle.keyed.proofs.Lists.{none-by, none-some, some-same}
-use Rattle.keyed.proofs.Words.{Bool, true, false, cond, List, ⊎-elim, _≡_, refl, sym, ap, subst, _∙_, ℕ, arith, eqb, cond-both, cases-eq, ne-eqb, eq-eqb, both-ways, false≢true, Option, Some, None}
 use Rattle.rows.proofs.Sides.{side-number, side-state}
 use Rattle.chains.proofs.Walk.{Not0}
 use Rattle.chains.proofs.Walks.{put-cases}
@@ -16,7 +17,6 @@ use Rattle.law.proofs.Fulls.{num-there}
 use Rattle.law.proofs.Opens.{num-buyer, num-seller, num-next-not, num-prev-not, open-not, self-s, cancel-one}
 use Rattle.law.proofs.Passed.{Confirms-both, Intermediates, Passed, leg-is-there}
 use Rattle.law.proofs.Shown.{view}
-use Rattle.law.proofs.Subject.{Intermediation, Side, Buyer, Seller, or-else, is-some, find, changed, Listed, IntermediationCall, NewIntermediation, Request, Capture, Cancel, Include, Remove, Confirm, Intermediate, ConfirmIntermediation, ExcludeIntermediation, Close, is-confirmed, emptied, confirmed, id, no-intermediation, any-leg, number, allocation, is-numbered, no-trade, at-side, captured, both-confirmed, Allocation, Trade}
 use Rattle.law.proofs.Views.{View, exclude, Sound as Seen}
 use Rattle.law.specs.Plain.{closes}
 

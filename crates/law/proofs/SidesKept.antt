@@ -1,6 +1,7 @@
 -- Every request keeps the agreement with the plain book and the law of the sides.
-use Rattle.keyed.proofs.Keys.{below-absent}
 use Rattle.keyed.proofs.Words.{true, List, _∷_, _≡_, sym, ℕ, arith, Option, None, Ok, Err}
+use Rattle.law.proofs.Subject.{Refusal, Pair, Side, find, rises-above, Listed, Request, Capture, Cancel, Include, Remove, Confirm, Intermediate, ConfirmIntermediation, ExcludeIntermediation, Close, id, number}
+use Rattle.keyed.proofs.Keys.{below-absent}
 use Rattle.book.specs.Effects.{placed}
 use Rattle.book.specs.Numbering.{reply, effect, completed}
 use Rattle.book.specs.Runs.{Event, History}
@@ -10,7 +11,6 @@ use Rattle.law.proofs.Joints.{confirm-joint-fair, exclude-fair, cancel-fair, j
 use Rattle.law.proofs.Legs.{fair-o}
 use Rattle.law.proofs.OneTrade.{next, capture-fair, include-fair, remove-fair, confirm-fair, close-fair}
 use Rattle.law.proofs.Passed.{Own, Passed}
-use Rattle.law.proofs.Subject.{Refusal, Pair, Side, find, rises-above, Listed, Request, Capture, Cancel, Include, Remove, Confirm, Intermediate, ConfirmIntermediation, ExcludeIntermediation, Close, id, number}
 use Rattle.law.specs.Law.{Agrees, Sides, Chains}
 use Rattle.law.specs.Plain.{Plain, plain, fed, Filling, last-filling}
 

@@ -1,6 +1,7 @@
 -- A numbered chain stays as it is until the closing.
-use Rattle.keyed.proofs.Lists.{each-map}
 use Rattle.keyed.proofs.Words.{false, true, List, [], _∷_, ⊎-elim, refl, subst, sym, _≡_, _∙_, ℕ, cases-bool, Option, None, Some}
+use Rattle.law.proofs.Subject.{Refusal, Each, all}
+use Rattle.keyed.proofs.Lists.{each-map}
 use Rattle.book.specs.Runs.{Beginning, Call, History, Run, begun, ran, stepped}
 use Rattle.book.specs.State.{State, trade}
 use Rattle.book.specs.Steps.{outcome, step}
@@ -13,7 +14,6 @@ use Rattle.law.proofs.PairLaw.{Full}
 use Rattle.law.proofs.Passed.{all-passed}
 use Rattle.law.proofs.Shown.{view}
 use Rattle.law.proofs.Steps.{Old-pairs}
-use Rattle.law.proofs.Subject.{Refusal, Each, all}
 use Rattle.law.specs.Further.{As-it-was, Held-as-before, Numbered-chain-stays, Stays, Closes, None-closes}
 use Rattle.law.specs.Plain.{closes}
 

@@ -1,6 +1,7 @@
 -- Every request keeps the pairs lawful.
-use Rattle.keyed.proofs.Lists.{none-some}
 use Rattle.keyed.proofs.Words.{true, false, _&&_, List, [], _∷_, _++_, map, _⊎_, inl, inr, ⊎-elim, _≡_, refl, sym, ap, ap₂, subst, _∙_, ℕ, _≤_, _<_, eqb, length, cases-eq, ne-eqb, eq-eqb, both-ways, and-parts, Some}
+use Rattle.law.proofs.Subject.{numbers, Pair, Side, Buyer, Seller, is-some, those, Each, Table, find, Listed, Request, Capture, Cancel, Include, Remove, Confirm, Intermediate, ConfirmIntermediation, ExcludeIntermediation, Close, is-confirmed, total, entries-held, number, numbered, Trade, trade-in}
+use Rattle.keyed.proofs.Lists.{none-some}
 use Rattle.rows.proofs.Sides.{confirmed-filled, some-entries}
 use Rattle.chains.proofs.Matches.{all-name}
 use Rattle.chains.proofs.Ties.{first-is}
@@ -27,7 +28,6 @@ use Rattle.law.proofs.Passed.{Enough, Passed}
 use Rattle.law.proofs.Placed.{Leaves}
 use Rattle.law.proofs.Quantities.{Sound-trade}
 use Rattle.law.proofs.Shown.{ends, view}
-use Rattle.law.proofs.Subject.{numbers, Pair, Side, Buyer, Seller, is-some, those, Each, Table, find, Listed, Request, Capture, Cancel, Include, Remove, Confirm, Intermediate, ConfirmIntermediation, ExcludeIntermediation, Close, is-confirmed, total, entries-held, number, numbered, Trade, trade-in}
 use Rattle.law.proofs.Views.{View, next, prev, first, whole-chain, numbered as numbered-view}
 use Rattle.law.specs.Law.{Sides, Pairs, final, pairs-of}
 

@@ -1,8 +1,9 @@
 -- In a run from an empty book no chain is broken, and none of up to three trades is too long.
+use Rattle.keyed.proofs.Words.{false, not, true, _&&_, _||_, List, [], map, _∷_, ⊎-elim, inl, inr, ap, refl, subst, sym, _≡_, _∙_, ℕ, _+_, _≤_, arith, eqb, length, both-ways, cases-eq, eq-eqb, ne-eqb, and-from, Option, None, Some, Err}
+use Rattle.law.proofs.Subject.{number-of, Refusal, Intermediation, Side, Buyer, Seller, any, is-some, Each, In, find, Listed, NewIntermediation, Request, Cancel, Capture, Close, Confirm, ConfirmIntermediation, ExcludeIntermediation, Include, Intermediate, Remove, held, any-leg, both-legs, has-leg, id, leg, each-leg, allocation, number, alike, is-cancelled, trade-in, Trade}
 use Rattle.std.proofs.shelf.Tests.{le-leb}
 use Rattle.fields.specs.declared.ground.Ground.{Ground}
 use Rattle.keyed.proofs.Lists.{each-in}
-use Rattle.keyed.proofs.Words.{false, not, true, _&&_, _||_, List, [], map, _∷_, ⊎-elim, inl, inr, ap, refl, subst, sym, _≡_, _∙_, ℕ, _+_, _≤_, arith, eqb, length, both-ways, cases-eq, eq-eqb, ne-eqb, and-from, Option, None, Some, Err}
 use Rattle.rows.specs.Hours.{in-time}
 use Rattle.rows.specs.Legs.{leg-holds, legs-hold}
 use Rattle.chains.proofs.Ties.{first-is}
@@ -24,7 +25,6 @@ use Rattle.law.proofs.Fulls.{behind, each-behind, others-are}
 use Rattle.law.proofs.Passed.{Tables, tables-passed}
 use Rattle.law.proofs.Refusals.{asked, calm-capture-verdict, calm-closing-verdict, calm-completed, calm-empty-verdict, calm-entries, calm-fields, calm-id-verdict, calm-inclusion-verdict, calm-intermediary-verdict, calm-opposites, calm-outside-verdict, calm-side-verdict, calm-sides-verdict, calm-tables-verdict, calm-ties, calm-unnumbered-verdict, legs, not-on, turns, turns-if, Off, none-off, tested}
 use Rattle.law.proofs.Shown.{view}
-use Rattle.law.proofs.Subject.{number-of, Refusal, Intermediation, Side, Buyer, Seller, any, is-some, Each, In, find, Listed, NewIntermediation, Request, Cancel, Capture, Close, Confirm, ConfirmIntermediation, ExcludeIntermediation, Include, Intermediate, Remove, held, any-leg, both-legs, has-leg, id, leg, each-leg, allocation, number, alike, is-cancelled, trade-in, Trade}
 use Rattle.law.proofs.Views.{next, prev, first as first-in}
 use Rattle.law.specs.Further.{Chain-of, Never, Never-broken, Never-too-long}
 use Rattle.law.specs.Law.{Chain}

@@ -1,11 +1,12 @@
 -- What is known of a side that is filled or confirmed, and of a trade of which one side is changed.
+use Rattle.keyed.proofs.Words.{Bool, List, [], and-parts, ap, arith, cond, drop, eqb, eqb-true, false, length, refl, true, ℕ, _&&_, _∷_, _≡_, _<_, false≢true}
+use Rattle.std.proofs.shelf.Lists.{take-at}
 use Rattle.fields.specs.declared.trade.Entry.{Entry}
 use Rattle.fields.specs.declared.trade.Kind.{Kind}
 use Rattle.fields.specs.declared.trade.Kind.the-variants.{Deposited, Registered, Selic}
 use Rattle.fields.specs.declared.trade.Side.{Side}
 use Rattle.fields.specs.declared.trade.Side.the-variants.{Buyer, Seller}
 use Rattle.fields.specs.declared.trade.Terms.{Terms}
-use Rattle.keyed.proofs.Words.{Bool, List, [], and-parts, ap, arith, cond, drop, eqb, eqb-true, false, length, refl, take-at, true, ℕ, _&&_, _∷_, _≡_, _<_, false≢true}
 use Rattle.rows.specs.Accounts.{same-kind}
 use Rattle.rows.specs.Allocations.{confirmed-if, held, is-confirmed, is-empty, total, filled, confirmed}
 use Rattle.rows.specs.Legs.{leg, no-intermediation}
