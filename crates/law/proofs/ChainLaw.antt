@@ -7,7 +7,7 @@ use Rattle.keyed.proofs.Lists.{none-by, some-of, from-in, none-some}
 use Rattle.rows.specs.Accounts.{same-kind}
 use Rattle.chains.proofs.Walk.{Not0}
 use Rattle.book.specs.State.{State, trade, intermediation}
-use Rattle.law.proofs.Accepts.{Sound, halves-of, there-of, not0-pos}
+use Rattle.law.proofs.Books.{Sound, halves-of, there-of, not0-pos}
 use Rattle.law.proofs.Chained.{tie-at, leg-at, leg-some, intermediation-id}
 use Rattle.law.proofs.Shown.{common, view}
 use Rattle.law.proofs.Views.{Common, next}

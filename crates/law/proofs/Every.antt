@@ -7,8 +7,9 @@ use Rattle.book.specs.Runs.{History, Beginning, Call, event, rows-named, Run, s
 use Rattle.book.specs.State.{State}
 use Rattle.book.specs.Steps.{Outcome, outcome, step}
 use Rattle.book.specs.Verdicts.{verdict}
-use Rattle.law.proofs.Accepts.{Sound, Confirmed-hold, accepted, confirming}
+use Rattle.law.proofs.Accepts.{accepted, confirming}
 use Rattle.law.proofs.Beginnings.{beginning-lawful}
+use Rattle.law.proofs.Books.{Sound, Confirmed-hold}
 use Rattle.law.proofs.ChainLaw.{chains}
 use Rattle.law.proofs.ChainRows.{Found, completed-found, kind-known}
 use Rattle.law.proofs.Completes.{Confirming, conf-line, conf-chain, conf-all}

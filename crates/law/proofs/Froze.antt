@@ -6,7 +6,7 @@ use Rattle.keyed.proofs.Lists.{mapped}
 use Rattle.rows.proofs.Sides.{none-leg}
 use Rattle.chains.proofs.Walk.{Not0}
 use Rattle.book.specs.State.{State, trade, intermediation}
-use Rattle.law.proofs.Accepts.{Sound, walk-in, halves-of}
+use Rattle.law.proofs.Books.{Sound, walk-in, halves-of}
 use Rattle.law.proofs.Completed.{final-each}
 use Rattle.law.proofs.Fulls.{behind, each-behind, num-full, full-num, others-are, num-not0}
 use Rattle.law.proofs.PairLaw.{Full, Still-full}

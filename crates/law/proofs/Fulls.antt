@@ -5,7 +5,7 @@ use Rattle.chains.proofs.Ties.{first-is}
 use Rattle.chains.proofs.Walk.{Not0, Walk, whole-from}
 use Rattle.chains.proofs.Walks.{far-is, one-stays, one-goes, turned, far-stops, whole-made}
 use Rattle.book.specs.State.{State, trade}
-use Rattle.law.proofs.Accepts.{Sound, walk-in}
+use Rattle.law.proofs.Books.{Sound, walk-in}
 use Rattle.law.proofs.ChainLaw.{chains, link-next, next-link, pos-not0}
 use Rattle.law.proofs.Kept.{full-none, full-parts, full-made, absent-num}
 use Rattle.law.proofs.PairLaw.{Full}

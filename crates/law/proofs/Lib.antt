@@ -1,5 +1,6 @@
 pub mod Accepts
 pub mod Beginnings
+pub mod Books
 pub mod Bridge
 pub mod ChainLaw
 pub mod ChainRows
@@ -9,6 +10,7 @@ pub mod Completes
 pub mod Confirms
 pub mod Events
 pub mod Every
+pub mod Excluding
 pub mod Fair
 pub mod Froze
 pub mod Fulls

@@ -10,8 +10,9 @@ use Rattle.book.specs.Effects.{excluded, cancelled, placed, called-off, exclude
 use Rattle.book.specs.Entries.{included, intermediated}
 use Rattle.book.specs.Numbering.{confirms-in}
 use Rattle.book.specs.State.{State, trade, intermediation, at-trade}
-use Rattle.law.proofs.Accepts.{Sound, any-leg-is, excluded-is, twice-excluded, exclude-open}
+use Rattle.law.proofs.Books.{Sound, any-leg-is}
 use Rattle.law.proofs.Confirms.{leg-left, leg-right}
+use Rattle.law.proofs.Excluding.{excluded-is, twice-excluded, exclude-open}
 use Rattle.law.proofs.Froze.{same-self, same-path, same-then, Frozen, Fewer, frozen-then, changed-froze, changed-alike, changed-fewer, entered-joints, removed-joints}
 use Rattle.law.proofs.Fulls.{num-there}
 use Rattle.law.proofs.Opens.{num-buyer, num-seller, num-next-not, num-prev-not, open-not, self-s, cancel-one}

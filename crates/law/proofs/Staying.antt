@@ -6,7 +6,7 @@ use Rattle.book.specs.Runs.{Beginning, Call, History, Run, begun, ran, stepped}
 use Rattle.book.specs.State.{State, trade}
 use Rattle.book.specs.Steps.{outcome, step}
 use Rattle.book.specs.Verdicts.{verdict}
-use Rattle.law.proofs.Accepts.{Sound}
+use Rattle.law.proofs.Books.{Sound}
 use Rattle.law.proofs.Every.{Held, frozen-on, held-begun, held-ran, held-step, olds-kept}
 use Rattle.law.proofs.Froze.{Frozen, frozen-then, same-self, stays}
 use Rattle.law.proofs.Fulls.{each-behind, full-num, others-are}

@@ -11,7 +11,7 @@ use Rattle.chains.specs.Following.{last-of}
 use Rattle.book.specs.Numbering.{chain-matches, issuer, new-pairs, all-numbered, numbering, confirms-in, with-numbers}
 use Rattle.book.specs.Runs.{History, Beginning}
 use Rattle.book.specs.State.{State, trade}
-use Rattle.law.proofs.Accepts.{Sound, Ends-hold, walk-in}
+use Rattle.law.proofs.Books.{Sound, Ends-hold, walk-in}
 use Rattle.law.proofs.Bridge.{joined-yes, joined-no}
 use Rattle.law.proofs.ChainLaw.{chains}
 use Rattle.law.proofs.ChainRows.{Found}

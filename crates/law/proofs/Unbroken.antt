@@ -16,7 +16,7 @@ use Rattle.book.specs.Runs.{begun}
 use Rattle.book.specs.State.{State, intermediation, trade}
 use Rattle.book.specs.Steps.{outcome, step}
 use Rattle.book.specs.Verdicts.{intermediation-verdict, leg-verdict, legs-verdict, on-side-verdict, own-verdict, trade-verdict, two-legs-verdict, verdict}
-use Rattle.law.proofs.Accepts.{Sound, any-leg-is, halves-of, numbers-are, there-of, walk-in, legged}
+use Rattle.law.proofs.Books.{Sound, any-leg-is, halves-of, numbers-are, there-of, walk-in, legged}
 use Rattle.law.proofs.ChainLaw.{next-link}
 use Rattle.law.proofs.Chained.{chain-is, intermediation-id, tie-at}
 use Rattle.law.proofs.Confirms.{leg-left, leg-right}
