@@ -125,8 +125,8 @@ module _ (next prev : ℕ → ℕ) (w : Walk next prev) (full num full′ : ℕ 
   joined-old k h = joined-cases (λ b. b ≡ true) k (λ _ _. refl) (λ _. h)
 
   -- what is joined is of the chain, or was numbered
-  joined-is : (k : ℕ) → joined prev n num k ≡ true → (Not0 k × (far prev k ≡ far prev n)) ⊎ (num k ≡ true)
-  joined-is k = joined-cases (λ b. b ≡ true → (Not0 k × (far prev k ≡ far prev n)) ⊎ (num k ≡ true)) k (λ z e _. inl (z, e)) (λ _ h. inr h)
+  filled-both : (k : ℕ) → joined prev n num k ≡ true → (Not0 k × (far prev k ≡ far prev n)) ⊎ (num k ≡ true)
+  filled-both k = joined-cases (λ b. b ≡ true → (Not0 k × (far prev k ≡ far prev n)) ⊎ (num k ≡ true)) k (λ z e _. inl (z, e)) (λ _ h. inr h)
 
   -- whatever pairs are written, if each names the chain's ends and there is one
   pub confirmed-whole : (ps : List Pair) → ((p : Pair) → Among p ps → (p .opens ≡ far prev n) × (p .ends ≡ far next n)) → (p : Pair) → Among p ps
@@ -135,11 +135,11 @@ module _ (next prev : ℕ → ℕ) (w : Walk next prev) (full num full′ : ℕ 
     none-full = more 0 (i .none-full);
     none-num = joined-cases (λ b. b ≡ false) 0 (λ z _. absurd (z refl)) (λ _. i .none-num);
     num-full = λ k g. ⊎-elim (λ (e : Not0 k × (far prev k ≡ far prev n)). whole-any next prev full′ w n k (e .1) h)
-        (λ (o : num k ≡ true). more k (i .num-full k o)) (joined-is k g);
+        (λ (o : num k ≡ true). more k (i .num-full k o)) (filled-both k g);
     num-next = λ k g z. ⊎-elim (λ (e : Not0 k × (far prev k ≡ far prev n)). joined-in (next k) z (far-next next prev w k z ∙ e .1))
-        (λ (o : num k ≡ true). joined-old _ (i .num-next k o z)) (joined-is k g);
+        (λ (o : num k ≡ true). joined-old _ (i .num-next k o z)) (filled-both k g);
     num-prev = λ k g z. ⊎-elim (λ (e : Not0 k × (far prev k ≡ far prev n)). joined-in (prev k) z (far-prev next prev w k z ∙ e .1))
-        (λ (o : num k ≡ true). joined-old _ (i .num-prev k o z)) (joined-is k g);
+        (λ (o : num k ≡ true). joined-old _ (i .num-prev k o z)) (filled-both k g);
     full-num = λ k z g. ⊎-elim (λ (e : far prev k ≡ far prev n). joined-in k z e)
         (λ (d : far prev k ≡ far prev n → ⊥). joined-old k (i .full-num k z (elsewhere k d g))) (cases-eq (far prev k) (far prev n));
     pair-num = λ p g. ⊎-elim (λ (o : Among p pairs). let q = i .pair-num p o in (joined-old _ (q .0), q .1, q .2))
@@ -156,5 +156,5 @@ module _ (next prev : ℕ → ℕ) (w : Walk next prev) (full num full′ : ℕ 
           q .0 ∙ sym (e .1),
           q .1 ∙ sym (far-across next prev w n) ∙ ap (far next) (sym (e .1)) ∙ far-across next prev w k,
         ))
-        (λ (o : num k ≡ true). let q = i .num-pair k o in (q .0, among-left (q .0) pairs ps (q .1), q .2, q .3)) (joined-is k g);
+        (λ (o : num k ≡ true). let q = i .num-pair k o in (q .0, among-left (q .0) pairs ps (q .1), q .2, q .3)) (filled-both k g);
   }

@@ -31,17 +31,17 @@ whole-from next full f = full f && (full (next f) && full (next (next f)))
 abbrev pub whole : (ℕ → ℕ) → (ℕ → ℕ) → (ℕ → Bool) → ℕ → Bool
 whole next prev full n = whole-from next full (far prev n)
 
+-- the first and the last trade that a pair names
 pub record Pair : Type 0 where
   pub opens : ℕ
   pub ends : ℕ
-  pub entry : ℕ
 
 abbrev pub Among : Pair → List Pair → Type 0
 Among p [] = ⊥
 Among p (q ∷ qs) = (p ≡ q) ⊎ Among p qs
 
-abbrev pub pair : ℕ → ℕ → ℕ → Pair
-pair a b q = record { opens = a; ends = b; entry = q }
+abbrev pub pair : ℕ → ℕ → Pair
+pair a b = record { opens = a; ends = b }
 
 -- some pair of the list names these two
 abbrev pub Named : ℕ → ℕ → List Pair → Type 0

@@ -14,7 +14,7 @@ use Rattle.book.specs.Joining.{numbers-in}
 use Rattle.book.specs.Numbering.{confirms-in, completed, effect}
 use Rattle.book.specs.State.{State, trade, intermediation}
 use Rattle.law.proofs.Books.{Confirmed-hold, any-leg-is, halves-of, leg-case, not0-pos, numbers-are, side-keys, side-leg-is, sold-case, some-leg, there-of, walk-in, with-keys, Sound, legged, none0, finish}
-use Rattle.law.proofs.Bridge.{as-bought, as-sold, only-side, side-view, sides-again, joined-view, captured-view}
+use Rattle.law.proofs.Bridge.{as-bought, as-sold, only-side, side-view, sides-again, entered-view, captured-view}
 use Rattle.law.proofs.Chained.{length-line, none-line}
 use Rattle.law.proofs.Completes.{Confirming, completed-sound}
 use Rattle.law.proofs.Excluding.{cancel-sound, exclude-sound}
@@ -118,9 +118,9 @@ module _ (s : State) (g : Sound s) where
       (λ now. held (q .trade) (ap (λ b. cond b (Some (q .trade)) None) now)) (p .enough))
       (side-keys s g (q .side) (q .trade) (included r q)) (g .intermediation-keys)
 
-  pub confirm-intermediation-conf : (r : List Listed) (q : IntermediationCall) → Tables s → Confirms-both r s q → Confirming (placed r s (ConfirmIntermediation q)) (any-leg (intermediation s (q .id)))
+  pub confirm-both-conf : (r : List Listed) (q : IntermediationCall) → Tables s → Confirms-both r s q → Confirming (placed r s (ConfirmIntermediation q)) (any-leg (intermediation s (q .id)))
   unfolding placed
-  confirm-intermediation-conf r q t p =
+  confirm-both-conf r q t p =
       let x = intermediation s (q .id) in
       let v = view s in
       record {
@@ -138,12 +138,12 @@ module _ (s : State) (g : Sound s) where
             Confirmed (λ _. refl) (λ _. refl) (λ _. refl) (λ _. refl);
       }
 
-  confirm-intermediation-sound : (r : List Listed) (q : IntermediationCall) → Tables s → Confirms-both r s q → Confirmed-hold r s (ConfirmIntermediation q) → Sound (effect r s (ConfirmIntermediation q))
+  confirm-both-sound : (r : List Listed) (q : IntermediationCall) → Tables s → Confirms-both r s q → Confirmed-hold r s (ConfirmIntermediation q) → Sound (effect r s (ConfirmIntermediation q))
   unfolding effect completed placed
-  confirm-intermediation-sound r q t p held =
+  confirm-both-sound r q t p held =
       let x = intermediation s (q .id) in
       with-keys _ (placed r s (ConfirmIntermediation q))
-      (completed-sound (placed r s (ConfirmIntermediation q)) (any-leg x) (confirm-intermediation-conf r q t p) (held (any-leg x) refl) (p .enough))
+      (completed-sound (placed r s (ConfirmIntermediation q)) (any-leg x) (confirm-both-conf r q t p) (held (any-leg x) refl) (p .enough))
       (rises-changed number (at-side Seller confirmed) (λ _. refl) (x .sold) _ 0 (side-keys s g Buyer (x .bought) confirmed)) (g .intermediation-keys)
 
   alike-common : (t u : Terms) → alike t u ≡ true → common t ≡ common u
@@ -201,14 +201,14 @@ module _ (s : State) (g : Sound s) where
     unfolding placed
     entered-shown =
         let e : Trade → List KeptEntry = λ t. kept-entry r (whole-entry (q .intermediation .account) t) ∷ [] in
-        joined-view (q .intermediation) (leg-rule Buyer) (leg-rule Seller) (s .trades .rows) (s .intermediations .rows) (s .pairs .rows)
+        entered-view (q .intermediation) (leg-rule Buyer) (leg-rule Seller) (s .trades .rows) (s .intermediations .rows) (s .pairs .rows)
         (only-side Buyer (intermediated r (q .intermediation) (q .now))) (only-side Seller (intermediated r (q .intermediation) (q .now)))
         (λ z. and-parts _ _ (here-leg Buyer z) .0) (λ z. and-parts _ _ (here-leg Seller z) .0) (none0 s g) (p .id-is) none-there (cond (q .now) Confirmed Allocated)
         (λ t. filled-state (q .now) (e t) (q .intermediation .id) (t .buyer)) (λ t. filled-state (q .now) (e t) (q .intermediation .id) (t .seller))
         (λ t. filled-tie (q .now) (e t) (q .intermediation .id) (t .buyer)) (λ t. filled-tie (q .now) (e t) (q .intermediation .id) (t .seller))
 
-    pub join-conf : q .now ≡ true → Confirming (placed r s (Intermediate q)) (any-leg (q .intermediation))
-    join-conf now =
+    pub intermediate-conf : q .now ≡ true → Confirming (placed r s (Intermediate q)) (any-leg (q .intermediation))
+    intermediate-conf now =
         let a = q .intermediation .bought in
         let c = q .intermediation .sold in
         let v = view s in
@@ -225,13 +225,13 @@ module _ (s : State) (g : Sound s) where
           shown = entered-shown ∙ ap (λ b. link (q .intermediation .id) a c (sides a c (cond b Confirmed Allocated) v)) now ∙ ap (link (q .intermediation .id) a c) (sym (sides-again a c Confirmed Allocated v));
         }
 
-    join-sound : Confirmed-hold r s (Intermediate q) → Sound (effect r s (Intermediate q))
+    intermediate-sound : Confirmed-hold r s (Intermediate q) → Sound (effect r s (Intermediate q))
     unfolding effect completed placed
-    join-sound held =
+    intermediate-sound held =
         let n = any-leg (q .intermediation) in
         with-keys _ (placed r s (Intermediate q))
         (finish (placed r s (Intermediate q)) n (q .now)
-        join-conf
+        intermediate-conf
         (λ now. subst Seen (sym (entered-shown ∙ ap (λ b. link (q .intermediation .id) (q .intermediation .bought) (q .intermediation .sold) (sides (q .intermediation .bought) (q .intermediation .sold) (cond b Confirmed Allocated) (view s))) now)) entered-sound)
         (λ now. held n (ap (λ b. cond b (Some n) None) now)) (p .enough))
         (rises-changed number (leg-rule Seller) (λ _. refl) (q .intermediation .sold) _ 0 (rises-changed number (leg-rule Buyer) (λ _. refl) (q .intermediation .bought) (s .trades .rows) 0 (g .trade-keys)))
@@ -246,8 +246,8 @@ module _ (s : State) (g : Sound s) where
   accepted r (Include q) p h = include-sound s g r q (p .own) h
   accepted r (Remove q) p h = remove-sound s g r q (p .own)
   accepted r (Confirm q) p h = confirm-sound s g r q (p .own) h
-  accepted r (Intermediate q) p h = join-sound s g r q (p .own) h
-  accepted r (ConfirmIntermediation q) p h = confirm-intermediation-sound s g r q (p .tables) (p .own) h
+  accepted r (Intermediate q) p h = intermediate-sound s g r q (p .own) h
+  accepted r (ConfirmIntermediation q) p h = confirm-both-sound s g r q (p .tables) (p .own) h
   accepted r (ExcludeIntermediation q) p h = exclude-sound s g r q (p .tables) (p .own)
   accepted r (Close q) p h = record { seen = nothing-sound; trade-keys = refl; intermediation-keys = refl }
 
@@ -265,8 +265,8 @@ module _ (s : State) (g : Sound s) where
   confirming r (Intermediate q) p n e = go (q .now) refl e
     where
       go : (b : Bool) → q .now ≡ b → cond b (Some (any-leg (q .intermediation))) None ≡ Some n → Confirming (placed r s (Intermediate q)) n
-      go true now d = subst (Confirming (placed r s (Intermediate q))) (some-same (any-leg (q .intermediation)) n d) (join-conf s g r q (p .own) now)
+      go true now d = subst (Confirming (placed r s (Intermediate q))) (some-same (any-leg (q .intermediation)) n d) (intermediate-conf s g r q (p .own) now)
       go false now d = absurd (none-some n d)
-  confirming r (ConfirmIntermediation q) p n e = subst (Confirming (placed r s (ConfirmIntermediation q))) (some-same (any-leg (intermediation s (q .id))) n e) (confirm-intermediation-conf s g r q (p .tables) (p .own))
+  confirming r (ConfirmIntermediation q) p n e = subst (Confirming (placed r s (ConfirmIntermediation q))) (some-same (any-leg (intermediation s (q .id))) n e) (confirm-both-conf s g r q (p .tables) (p .own))
   confirming r (ExcludeIntermediation q) p n e = absurd (none-some n e)
   confirming r (Close q) p n e = absurd (none-some n e)

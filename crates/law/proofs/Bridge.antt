@@ -63,13 +63,13 @@ removed-leg g gz n xs r z m =
 same-legs : (v : View) {b s : ℕ → AllocationState} {b′ s′ x x₂ y y₂ : ℕ → ℕ} → ((n : ℕ) → x n ≡ x₂ n) → ((n : ℕ) → y n ≡ y₂ n) → with-ties b′ s′ x y (with-sides b s v) ≡ with-ties b′ s′ x₂ y₂ (with-sides b s v)
 same-legs v {b} {s} {b′} {s′} ex ey = λ i. with-ties b′ s′ (fun-ext ex i) (fun-ext ey i) (with-sides b s v)
 
-pub joined-view : (x : Intermediation) (f g : Trade → Trade) (ts : List Trade) (xs : List Intermediation) (ps : List Pair)
+pub entered-view : (x : Intermediation) (f g : Trade → Trade) (ts : List Trade) (xs : List Intermediation) (ps : List Pair)
     → Only Buyer f → Only Seller g → Here (x .bought) ts → Here (x .sold) ts → None0 ts → Not0 (x .id) → find id (x .id) xs ≡ None
     → (d : AllocationState) → ((t : Trade) → f t .buyer .state ≡ d) → ((t : Trade) → g t .seller .state ≡ d)
     → ((t : Trade) → f t .buyer .tie ≡ x .id) → ((t : Trade) → g t .seller .tie ≡ x .id)
     → shows (changed number (x .sold) g (changed number (x .bought) f ts)) (entered id x xs) ps
     ≡ link (x .id) (x .bought) (x .sold) (sides (x .bought) (x .sold) d (shows ts xs ps))
-joined-view x f g ts xs ps of og ha hc z i a d fx gx fi gi =
+entered-view x f g ts xs ps of og ha hc z i a d fx gx fi gi =
     both-view (x .bought) (x .sold) f g ts (entered id x xs) ps of og ha hc z d fx gx (x .id) fi gi
     ∙ same-legs (shows ts xs ps) (entered-leg (λ y. y .bought) x xs i a) (entered-leg (λ y. y .sold) x xs i a)
 

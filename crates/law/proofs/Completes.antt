@@ -33,7 +33,7 @@ written-names a b (m ∷ ms) (n ∷ ns) p (inl e) = (ap (λ x. x .opens) e, ap (
 written-names a b (m ∷ ms) (n ∷ ns) p (inr h) = written-names a b ms ns p h
 
 pub written-some : (a b : ℕ) (ms : List Match) (ns : List ℕ) → 0 < length ms → length ms ≤ length ns
-    → Among (pair a b 0) (map ends (given-numbers a b ms ns))
+    → Among (pair a b) (map ends (given-numbers a b ms ns))
 written-some a b [] ns h l = absurd (omega arith)
 written-some a b (m ∷ ms) [] h l = absurd (omega arith)
 written-some a b (m ∷ ms) (n ∷ ns) h l = inl refl

@@ -205,9 +205,9 @@ terms-known p s a n =
 
 -- ── Filled and confirmed sides ──
 
-pub shares-kept : (r : List Listed) (es : List Entry) → map (λ (e : KeptEntry). e .entry) (map (kept-entry r) es) ≡ es
-shares-kept r [] = refl
-shares-kept r (e ∷ es) = ap (λ xs. e ∷ xs) (shares-kept r es)
+pub entries-kept : (r : List Listed) (es : List Entry) → map (λ (e : KeptEntry). e .entry) (map (kept-entry r) es) ≡ es
+entries-kept r [] = refl
+entries-kept r (e ∷ es) = ap (λ xs. e ∷ xs) (entries-kept r es)
 
 pub same-side : (v w : Side) → is-side v w ≡ true → v ≡ w
 same-side Buyer Buyer e = refl

@@ -85,9 +85,9 @@ changed-fewer n f ts keeps less m h =
     go (Some t) x = less t x
 
 -- an intermediation entered, and one removed that holds nothing numbered
-pub entered-joints : (s : State) → Sound s → (x : Intermediation) → Not0 (x .id) → find id (x .id) (s .intermediations .rows) ≡ None
+pub entered-froze : (s : State) → Sound s → (x : Intermediation) → Not0 (x .id) → find id (x .id) (s .intermediations .rows) ≡ None
     → (w : Side) (m : ℕ) → view s .num m ≡ true → intermediation-in (entered id x (s .intermediations .rows)) (allocation w (trade s m) .tie) ≡ intermediation s (allocation w (trade s m) .tie)
-entered-joints s g x z none w m h =
+entered-froze s g x z none w m h =
     ap (or-else no-intermediation) (row-entered id x (s .intermediations .rows) (allocation w (trade s m) .tie) none ∙ ap (λ b. cond b (Some x) (find id (allocation w (trade s m) .tie) (s .intermediations .rows))) (ne-eqb (allocation w (trade s m) .tie) (x .id) other))
   where
     other : allocation w (trade s m) .tie ≡ x .id → ⊥
@@ -95,9 +95,9 @@ entered-joints s g x z none w m h =
         let own : leg w (intermediation s (allocation w (trade s m) .tie)) ≡ m = halves-of s g w .back m (λ y. z (sym e ∙ y)) in
         num-not0 s g m h (sym own ∙ ap (λ i. leg w (intermediation s i)) e ∙ ap (λ o. leg w (or-else no-intermediation o)) none ∙ none-leg w)
 
-pub removed-joints : (s : State) → Sound s → (i : ℕ) → Not0 i → view s .num (intermediation s i .bought) ≡ false → view s .num (intermediation s i .sold) ≡ false
+pub removed-froze : (s : State) → Sound s → (i : ℕ) → Not0 i → view s .num (intermediation s i .bought) ≡ false → view s .num (intermediation s i .sold) ≡ false
     → (w : Side) (m : ℕ) → view s .num m ≡ true → intermediation-in (removed id i (s .intermediations .rows)) (allocation w (trade s m) .tie) ≡ intermediation s (allocation w (trade s m) .tie)
-removed-joints s g i z nb ns w m h =
+removed-froze s g i z nb ns w m h =
     ap (or-else no-intermediation) (row-removed id i (s .intermediations .rows) (allocation w (trade s m) .tie) 0 (g .intermediation-keys) ∙ ap (λ b. cond b None (find id (allocation w (trade s m) .tie) (s .intermediations .rows))) (ne-eqb (allocation w (trade s m) .tie) i (other w)))
   where
     other : (w : Side) → allocation w (trade s m) .tie ≡ i → ⊥

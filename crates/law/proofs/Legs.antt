@@ -66,15 +66,15 @@ module _ (p : Plain) (o : Side → ℕ → Option Filling) (s : State) (f : Fair
           (f .sided w m));
       adds = adds-at v n g (s .trades .rows) (λ t e k z. ap (λ ds. total (map (λ (e : KeptEntry). e .entry) ds)) (holds t e) ∙ sum t e) (f .adds) }
 
-  pub enter-joint : (x : Intermediation) → Fair (record { day = p .day; trades = p .trades; standing = entered id x (p .standing) }) o (with-intermediations (entered-in id x) s)
-  enter-joint x = let a = f .agrees in record {
+  pub enter-row : (x : Intermediation) → Fair (record { day = p .day; trades = p .trades; standing = entered id x (p .standing) }) o (with-intermediations (entered-in id x) s)
+  enter-row x = let a = f .agrees in record {
     agrees = record { day = a .day; trades = a .trades; intermediations = ap (entered id x) (a .intermediations); trade-count = a .trade-count;
       intermediation-count = ap (λ n. n + 1) (a .intermediation-count) ∙ sym (length-entered id x (s .intermediations .rows)); pair-count = a .pair-count };
     sided = f .sided; adds = f .adds }
 
-  pub remove-joint : (k : ℕ) (x : Intermediation) → find id k (s .intermediations .rows) ≡ Some x
+  pub remove-row : (k : ℕ) (x : Intermediation) → find id k (s .intermediations .rows) ≡ Some x
       → Fair (record { day = p .day; trades = p .trades; standing = removed id (x .id) (p .standing) }) o (with-intermediations (removed-in id k) s)
-  remove-joint k x e = let a = f .agrees in record {
+  remove-row k x e = let a = f .agrees in record {
     agrees = record { day = a .day; trades = a .trades;
       intermediations = ap (λ n. removed id n (s .intermediations .rows)) (sym (row-found id k (s .intermediations .rows) x e .1)) ∙ ap (removed id (x .id)) (a .intermediations); trade-count = a .trade-count;
       intermediation-count = ap (λ n. n - 1) (a .intermediation-count) ∙ sym (length-removed id k (s .intermediations .rows) x e); pair-count = a .pair-count };
@@ -109,7 +109,7 @@ excluded-fair p o s f zero k = subst (Fair (gone-if (find id k (s .intermediatio
     go : (x : Option Intermediation) → find id k (s .intermediations .rows) ≡ x → Fair (gone-if x p) (clear x o) (excluded-by x k s)
     go None e = f
     go (Some x) e =
-        let f1 = remove-joint p o s f k x e in
+        let f1 = remove-row p o s f k x e in
         let f2 = empty-leg _ _ _ f1 zero Buyer (x .bought) in
         let f3 = empty-leg _ _ _ f2 (none-left Buyer (x .bought) (λ t. emptied) (s .trades .rows) 0 zero) Seller (x .sold) in
         fair-o _ _ (clear (Some x) o) _ (cleared-is x o) f3
@@ -121,8 +121,8 @@ excluded-zero s k m zero = subst (λ (u : State). find number m (u .trades .rows
     go None = zero
     go (Some x) = none-left Seller (x .sold) (λ t. emptied) _ m (none-left Buyer (x .bought) (λ t. emptied) (s .trades .rows) m zero)
 
-pub excluded-joints : (s : State) (k : ℕ) → excluded k s .intermediations .rows ≡ removed id k (s .intermediations .rows)
-excluded-joints s k = ap (λ (u : State). u .intermediations .rows) (excluded-is k s) ∙ go (find id k (s .intermediations .rows)) refl
+pub excluded-rows : (s : State) (k : ℕ) → excluded k s .intermediations .rows ≡ removed id k (s .intermediations .rows)
+excluded-rows s k = ap (λ (u : State). u .intermediations .rows) (excluded-is k s) ∙ go (find id k (s .intermediations .rows)) refl
   where
     go : (x : Option Intermediation) → find id k (s .intermediations .rows) ≡ x → excluded-by x k s .intermediations .rows ≡ removed id k (s .intermediations .rows)
     go None e = sym (removed-absent id k (s .intermediations .rows) e)

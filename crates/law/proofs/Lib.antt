@@ -15,7 +15,6 @@ pub mod Fair
 pub mod Froze
 pub mod Fulls
 pub mod Histories
-pub mod Joints
 pub mod Kept
 pub mod Legs
 pub mod OneTrade
@@ -31,5 +30,6 @@ pub mod SidesKept
 pub mod Staying
 pub mod Steps
 pub mod Subject
+pub mod TwoLegs
 pub mod Unbroken
 pub mod Views

@@ -8,7 +8,7 @@ use Rattle.rows.proofs.Sides.{held-filled, held-confirmed, filled-state}
 use Rattle.book.specs.Effects.{placed}
 use Rattle.book.specs.Entries.{kept-entry, entries-of, included}
 use Rattle.book.specs.State.{State, trade}
-use Rattle.law.proofs.Fair.{held-in, Adds, Sided, sided-if, Fair, plain-number-is, held-put, held-kept, adds-at, agrees-at, terms-known, shares-kept, same-side}
+use Rattle.law.proofs.Fair.{held-in, Adds, Sided, sided-if, Fair, plain-number-is, held-put, held-kept, adds-at, agrees-at, terms-known, entries-kept, same-side}
 use Rattle.law.proofs.Passed.{Captures, Confirms, Includes}
 use Rattle.law.specs.Law.{Entitled, as-plain}
 use Rattle.law.specs.Plain.{touched, Plain, fed, plain-number, filled-as, touch, is-side, Filling, terms-in, empties, fills}
@@ -95,7 +95,7 @@ module _ (p : Plain) (o : Side → ℕ → Option Filling) (r : List Listed) (s 
       let sums = t .sums in
       let rule : Trade → Allocation → Allocation = λ t. included r q in
       let fills-it : Sided (touched (fills (entries-of q)) r (p .day) (terms-in p n) (o v n)) v es =
-        (shares-kept r (entries-of q), subst₂ (λ day m. Each (Entitled r day m v) es) (f .agrees .day) (sym (terms-known p s (f .agrees) n)) good) in
+        (entries-kept r (entries-of q), subst₂ (λ day m. Each (Entitled r day m v) es) (f .agrees .day) (sym (terms-known p s (f .agrees) n)) good) in
       record {
         agrees = agrees-at v n rule (filled-as (q .now)) (λ t d. filled-state (q .now) es 0 d) p s (f .agrees);
         sided = λ w m. subst (λ ds. Sided (next p o r (Include q) a w m) w ds)
@@ -106,7 +106,7 @@ module _ (p : Plain) (o : Side → ℕ → Option Filling) (r : List Listed) (s 
             (f .sided w m));
         adds = adds-at v n rule (s .trades .rows) (λ t e k z.
           ap (λ ds. total (map (λ (e : KeptEntry). e .entry) ds)) (held-filled (q .now) es 0 (allocation v t))
-          ∙ ap total (shares-kept r (entries-of q)) ∙ sums ∙ ap (λ (x : Trade). x .terms .quantity) (found-is s n t e)) (f .adds) }
+          ∙ ap total (entries-kept r (entries-of q)) ∙ sums ∙ ap (λ (x : Trade). x .terms .quantity) (found-is s n t e)) (f .adds) }
 
   pub close-fair : (q : Closing) (a : Answer) → Fair (fed p (Close q) a) (next p o r (Close q) a) (placed r s (Close q))
   unfolding placed

@@ -13,7 +13,7 @@ use Rattle.book.specs.State.{State, trade, intermediation, at-trade}
 use Rattle.law.proofs.Books.{Sound, any-leg-is}
 use Rattle.law.proofs.Confirms.{leg-left, leg-right}
 use Rattle.law.proofs.Excluding.{excluded-is, twice-excluded, exclude-open}
-use Rattle.law.proofs.Froze.{same-self, same-path, same-then, Frozen, Fewer, frozen-then, changed-froze, changed-alike, changed-fewer, entered-joints, removed-joints}
+use Rattle.law.proofs.Froze.{same-self, same-path, same-then, Frozen, Fewer, frozen-then, changed-froze, changed-alike, changed-fewer, entered-froze, removed-froze}
 use Rattle.law.proofs.Fulls.{num-there}
 use Rattle.law.proofs.Opens.{num-buyer, num-seller, num-next-not, num-prev-not, open-not, self-s, cancel-one}
 use Rattle.law.proofs.Passed.{Confirms-both, Intermediates, Passed, leg-is-there}
@@ -45,7 +45,7 @@ excluded-leaves s g i nb ns = go (find id i (s .intermediations .rows)) refl
           frozen = record {
             parts = λ m h. same-then _ _ _ (changed-froze (view s .num) (intermediation s i .sold) (at-side Seller emptied) us (λ _. refl) ns m h)
                 (changed-froze (view s .num) (intermediation s i .bought) (at-side Buyer emptied) (s .trades .rows) (λ _. refl) nb m h);
-            intermediations = removed-joints s g i i-is nb ns };
+            intermediations = removed-froze s g i i-is nb ns };
           fewer = λ m h. changed-fewer (intermediation s i .bought) (at-side Buyer emptied) (s .trades .rows) (λ _. refl) (λ _ k. k) m
               (changed-fewer (intermediation s i .sold) (at-side Seller emptied) us (λ _. refl) (λ _ k. k) m h) })
 
@@ -59,13 +59,13 @@ module _ (s : State) (g : Sound s) where
   open-side n Buyer u = num-buyer (view s) (g .seen) n (λ _. u)
   open-side n Seller u = num-seller (view s) (g .seen) n (λ _. u)
 
-  join-open : (r : List Listed) (q : NewIntermediation) → Intermediates r s q → (view s .num (q .intermediation .bought) ≡ false) × (view s .num (q .intermediation .sold) ≡ false)
-  join-open r q p =
+  intermediate-open : (r : List Listed) (q : NewIntermediation) → Intermediates r s q → (view s .num (q .intermediation .bought) ≡ false) × (view s .num (q .intermediation .sold) ≡ false)
+  intermediate-open r q p =
       (num-buyer (view s) (g .seen) (q .intermediation .bought) (λ z. p .free Buyer (leg-is-there Buyer (q .intermediation) z) .unsure),
         num-seller (view s) (g .seen) (q .intermediation .sold) (λ z. p .free Seller (leg-is-there Seller (q .intermediation) z) .unsure))
 
-  confirm-joint-open : (r : List Listed) (q : IntermediationCall) → Confirms-both r s q → (view s .num (intermediation s (q .id) .bought) ≡ false) × (view s .num (intermediation s (q .id) .sold) ≡ false)
-  confirm-joint-open r q p =
+  confirm-both-open : (r : List Listed) (q : IntermediationCall) → Confirms-both r s q → (view s .num (intermediation s (q .id) .bought) ≡ false) × (view s .num (intermediation s (q .id) .sold) ≡ false)
+  confirm-both-open r q p =
       let x = intermediation s (q .id) in
       (num-buyer (view s) (g .seen) (x .bought) (λ z. p .unsure Buyer (leg-is-there Buyer x z)), num-seller (view s) (g .seen) (x .sold) (λ z. p .unsure Seller (leg-is-there Seller x z)))
 
@@ -125,7 +125,7 @@ module _ (s : State) (g : Sound s) where
   placed-leaves r (Confirm q) c p =
       side-leaves s g (q .side) (q .trade) confirmed (open-side s g (q .trade) (q .side) (p .own .free .unsure))
   placed-leaves r (Intermediate q) c p =
-      let o = join-open s g r q (p .own) in
+      let o = intermediate-open s g r q (p .own) in
       let x : Intermediation = q .intermediation in
       let fb : Trade → Trade = λ t. at-side Buyer (intermediated r x (q .now) t) t in
       let fs : Trade → Trade = λ t. at-side Seller (intermediated r x (q .now) t) t in
@@ -134,10 +134,10 @@ module _ (s : State) (g : Sound s) where
         frozen = record {
           parts = λ m h. same-then _ _ _ (changed-froze (view s .num) (x .sold) fs us (λ _. refl) (o .1) m h)
               (changed-froze (view s .num) (x .bought) fb (s .trades .rows) (λ _. refl) (o .0) m h);
-          intermediations = entered-joints s g x (p .own .id-is) (none-by _ (p .own .absent)) };
+          intermediations = entered-froze s g x (p .own .id-is) (none-by _ (p .own .absent)) };
         fewer = λ m h. changed-fewer (x .bought) fb (s .trades .rows) (λ _. refl) (λ _ k. k) m (changed-fewer (x .sold) fs us (λ _. refl) (λ _ k. k) m h) }
   placed-leaves r (ConfirmIntermediation q) c p =
-      let o = confirm-joint-open s g r q (p .own) in
+      let o = confirm-both-open s g r q (p .own) in
       let x = intermediation s (q .id) in
       let us = changed number (x .bought) (at-side Buyer confirmed) (s .trades .rows) in
       record {
@@ -167,13 +167,13 @@ module _ (s : State) (g : Sound s) where
   open-before r (Remove q) p n e = absurd (none-some n e)
   open-before r (Confirm q) p n e =
       ap (view s .num) (sym (some-same (q .trade) n e)) ∙ open-side s g (q .trade) (q .side) (p .own .free .unsure)
-  open-before r (Intermediate q) p n e = go (q .now) (let o = join-open s g r q (p .own) in any-open (q .intermediation) (o .0) (o .1)) e
+  open-before r (Intermediate q) p n e = go (q .now) (let o = intermediate-open s g r q (p .own) in any-open (q .intermediation) (o .0) (o .1)) e
     where
       go : (b : Bool) → view s .num (any-leg (q .intermediation)) ≡ false → cond b (Some (any-leg (q .intermediation))) None ≡ Some n → view s .num n ≡ false
       go true o d = ap (view s .num) (sym (some-same (any-leg (q .intermediation)) n d)) ∙ o
       go false o d = absurd (none-some n d)
   open-before r (ConfirmIntermediation q) p n e =
-      let o = confirm-joint-open s g r q (p .own) in
+      let o = confirm-both-open s g r q (p .own) in
       ap (view s .num) (sym (some-same (any-leg (intermediation s (q .id))) n e)) ∙ any-open (intermediation s (q .id)) (o .0) (o .1)
   open-before r (ExcludeIntermediation q) p n e = absurd (none-some n e)
   open-before r (Close q) p n e = absurd (none-some n e)

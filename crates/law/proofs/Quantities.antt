@@ -12,7 +12,7 @@ use Rattle.book.specs.Entries.{whole-entry, kept-entry, entries-of}
 use Rattle.book.specs.Numbering.{confirms-in}
 use Rattle.book.specs.State.{State, trade, intermediation}
 use Rattle.law.proofs.ChainRows.{part-changed}
-use Rattle.law.proofs.Fair.{shares-kept}
+use Rattle.law.proofs.Fair.{entries-kept}
 use Rattle.law.proofs.Passed.{Passed, Tables, at-least, leg-is-there}
 
 -- ── A trade with positive entries ──
@@ -91,7 +91,7 @@ placed-sound r s (Include q) m e c =
     let es : List KeptEntry = map (kept-entry r) (entries-of q) in
     let f : Allocation → Allocation = λ d. confirmed-if (q .now) (filled es 0 d) in
     each-changed Sound-trade (at-side (q .side) f) (q .trade) (s .trades .rows)
-    (λ t _ h. sound-side (q .side) f t (λ _. filled-positive (q .now) es 0 (allocation (q .side) t) (subst Positive (sym (shares-kept r (entries-of q))) (e .own .positive))) h)
+    (λ t _ h. sound-side (q .side) f t (λ _. filled-positive (q .now) es 0 (allocation (q .side) t) (subst Positive (sym (entries-kept r (entries-of q))) (e .own .positive))) h)
     (whole-sound s (e .tables))
 placed-sound r s (Remove q) m e c = let z : _≡_ {A = ℕ} 0 1 = cc in absurd (omega arith)
 placed-sound r s (Confirm q) m e c =

@@ -12,7 +12,7 @@ abbrev pub common : Terms → Common
 common t = record { kind = t .kind; asset = t .asset; quantity = t .quantity; settlement = t .settlement }
 
 abbrev pub ends : Pair → Ends
-ends p = pair (p .first) (p .last) 0
+ends p = pair (p .first) (p .last)
 
 abbrev pub shows : List Trade → List Intermediation → List Pair → View
 shows ts xs ps = record {

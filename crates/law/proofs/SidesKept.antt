@@ -7,7 +7,7 @@ use Rattle.book.specs.Numbering.{reply, effect, completed}
 use Rattle.book.specs.Runs.{Event, History}
 use Rattle.book.specs.State.{State}
 use Rattle.law.proofs.Fair.{Fair, last-is, fair-sides, fair-from, numbering-fair}
-use Rattle.law.proofs.Joints.{confirm-joint-fair, exclude-fair, cancel-fair, join-fair}
+use Rattle.law.proofs.TwoLegs.{confirm-both-fair, exclude-fair, cancel-fair, intermediate-fair}
 use Rattle.law.proofs.Legs.{fair-o}
 use Rattle.law.proofs.OneTrade.{next, capture-fair, include-fair, remove-fair, confirm-fair, close-fair}
 use Rattle.law.proofs.Passed.{Own, Passed}
@@ -34,8 +34,8 @@ placed-fair p o r s f c q t = go q (t .own)
     go (Include q) t = include-fair p o r s f q (reply r s (Include q)) t
     go (Remove q) t = remove-fair p o r s f q (reply r s (Remove q))
     go (Confirm q) t = confirm-fair p o r s f q (reply r s (Confirm q)) t
-    go (Intermediate q) t = join-fair p o r s f zero q (reply r s (Intermediate q)) t
-    go (ConfirmIntermediation q) t = confirm-joint-fair p o r s f zero q (reply r s (ConfirmIntermediation q)) t
+    go (Intermediate q) t = intermediate-fair p o r s f zero q (reply r s (Intermediate q)) t
+    go (ConfirmIntermediation q) t = confirm-both-fair p o r s f zero q (reply r s (ConfirmIntermediation q)) t
     go (ExcludeIntermediation q) t = exclude-fair p o r s f zero ids q (reply r s (ExcludeIntermediation q))
     go (Close q) t = close-fair p o r s f q (reply r s (Close q))
 

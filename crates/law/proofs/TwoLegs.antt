@@ -9,7 +9,7 @@ use Rattle.book.specs.Entries.{whole-entry, kept-entry, shown, no-account, inte
 use Rattle.book.specs.Numbering.{reply}
 use Rattle.book.specs.State.{State, trade, intermediation, at-trade}
 use Rattle.law.proofs.Fair.{Adds, Sided, Fair, plain-number-is, by, by-number, there-left, terms-left, terms-known}
-use Rattle.law.proofs.Legs.{none-left, fair-o, on-leg, confirm-leg, fill-leg, enter-joint, gone-if, holds-if, clear, excluded-fair, excluded-zero, excluded-joints, cancelled-fair}
+use Rattle.law.proofs.Legs.{none-left, fair-o, on-leg, confirm-leg, fill-leg, enter-row, gone-if, holds-if, clear, excluded-fair, excluded-zero, excluded-rows, cancelled-fair}
 use Rattle.law.proofs.OneTrade.{next}
 use Rattle.law.proofs.Passed.{Confirms-both, Intermediates, Stands, calling-is}
 use Rattle.law.proofs.Picks.{those-same, any-same, picks, picked-gone, picked-any, passes-if, one-gone, one-any, names-picks}
@@ -59,10 +59,10 @@ cleared-twice false true c o = refl
 cleared-twice false false c o = refl
 
 module _ (p : Plain) (o : Side → ℕ → Option Filling) (r : List Listed) (s : State) (f : Fair p o s) (zero : find number 0 (s .trades .rows) ≡ None) where
-  pub confirm-joint-fair : (q : IntermediationCall) (a : Answer) → Confirms-both r s q
+  pub confirm-both-fair : (q : IntermediationCall) (a : Answer) → Confirms-both r s q
       → Fair (fed p (ConfirmIntermediation q) a) (next p o r (ConfirmIntermediation q) a) (placed r s (ConfirmIntermediation q))
   unfolding placed
-  confirm-joint-fair q a t =
+  confirm-both-fair q a t =
       let x = intermediation s (q .id) in
       let here : find id (q .id) (s .intermediations .rows) ≡ Some x = some-of no-intermediation (find id (q .id) (s .intermediations .rows)) (t .here) in
       let full = t .holds in
@@ -107,7 +107,7 @@ module _ (p : Plain) (o : Side → ℕ → Option Filling) (r : List Listed) (s 
           let f1 = excluded-fair p o s f zero bt in
           let f2 = excluded-fair _ _ (excluded bt s) f1 (excluded-zero s bt 0 zero) st in
           let f3 = cancelled-fair _ _ (excluded st (excluded bt s)) f2 n in
-          let two : find id st (excluded bt s .intermediations .rows) ≡ find id st (removed id bt xs) = ap (find id st) (excluded-joints s bt) in
+          let two : find id st (excluded bt s .intermediations .rows) ≡ find id st (removed id bt xs) = ap (find id st) (excluded-rows s bt) in
           let e : gone-if (find id st (excluded bt s .intermediations .rows)) (gone-if (find id bt xs) p) ≡ all-gone (those (names n) (p .standing)) p =
             ap (λ y. gone-if y (gone-if (find id bt xs) p)) two ∙ sym (picked-gone 0 bt st xs ids p)
             ∙ ap (λ ys. all-gone ys p) (sym (those-same (names n) (picks bt st) xs np)) ∙ ap (λ ys. all-gone (those (names n) ys) p) (f .agrees .intermediations) in
@@ -133,17 +133,17 @@ module _ (p : Plain) (o : Side → ℕ → Option Filling) (r : List Listed) (s 
   -- ── Joining ──
 
   module _ (q : NewIntermediation) where
-    abbrev the-share : ℕ → Entry
-    the-share n = record { account = q .intermediation .account; quantity = terms-in p n .quantity; client = 0 }
+    abbrev the-entry : ℕ → Entry
+    the-entry n = record { account = q .intermediation .account; quantity = terms-in p n .quantity; client = 0 }
 
     abbrev fill : ℕ → Filling
-    fill n = record { entries = the-share n ∷ []; register = r; day = p .day; terms = terms-in p n }
+    fill n = record { entries = the-entry n ∷ []; register = r; day = p .day; terms = terms-in p n }
 
     abbrev pub rule : Trade → Allocation → Allocation
     rule t d = intermediated r (q .intermediation) (q .now) t d
 
     abbrev entries : ℕ → List KeptEntry
-    entries n = kept-entry r (the-share n) ∷ []
+    entries n = kept-entry r (the-entry n) ∷ []
 
     -- a trade found after other sides were changed has the quantity that the plain book knows
     quantity-known : (ts : List Trade) (n : ℕ) → trade-in ts n .terms ≡ trade s n .terms → (t : Trade) → find number n ts ≡ Some t → t .terms .quantity ≡ terms-in p n .quantity
@@ -182,18 +182,18 @@ module _ (p : Plain) (o : Side → ℕ → Option Filling) (r : List Listed) (s 
             (subst (λ y. tied-in r (q .intermediation .account) y ≡ true) (calling-is (q .intermediation .participant) w (trade s n .terms) (t .free w e .owner)) (t .tied w e));
           type-kept = refl }, tt))
 
-    joined-is : (a : Answer) (w : Side) (m : ℕ)
+    filled-both : (a : Answer) (w : Side) (m : ℕ)
         → cond (on-leg Seller (q .intermediation .sold) w m) (Some (fill m)) (cond (on-leg Buyer (q .intermediation .bought) w m) (Some (fill m)) (o w m)) ≡ next p o r (Intermediate q) a w m
-    joined-is a Buyer m = filled-if (holds-side Buyer m (q .intermediation)) (the-share m ∷ []) r (p .day) (terms-in p m) (o Buyer m)
-    joined-is a Seller m = filled-if (holds-side Seller m (q .intermediation)) (the-share m ∷ []) r (p .day) (terms-in p m) (o Seller m)
+    filled-both a Buyer m = filled-if (holds-side Buyer m (q .intermediation)) (the-entry m ∷ []) r (p .day) (terms-in p m) (o Buyer m)
+    filled-both a Seller m = filled-if (holds-side Seller m (q .intermediation)) (the-entry m ∷ []) r (p .day) (terms-in p m) (o Seller m)
 
-    pub join-fair : (a : Answer) → Intermediates r s q → Fair (fed p (Intermediate q) a) (next p o r (Intermediate q) a) (placed r s (Intermediate q))
+    pub intermediate-fair : (a : Answer) → Intermediates r s q → Fair (fed p (Intermediate q) a) (next p o r (Intermediate q) a) (placed r s (Intermediate q))
     unfolding placed
-    join-fair a t =
+    intermediate-fair a t =
         let n = q .intermediation .bought in
         let m = q .intermediation .sold in
         let us = changed number n (by Buyer rule) (s .trades .rows) in
-        let f0 = enter-joint p o s f (q .intermediation) in
+        let f0 = enter-row p o s f (q .intermediation) in
         let f1 = fill-leg _ o _ f0 zero Buyer n rule (filled-as (q .now)) fill (entries n)
           (λ t d. filled-state (q .now) (kept-entry r (whole-entry (q .intermediation .account) t) ∷ []) (q .intermediation .id) d)
           (λ e. t .free Buyer e .trade .here)
@@ -206,4 +206,4 @@ module _ (p : Plain) (o : Side → ℕ → Option Filling) (r : List Listed) (s 
           (λ t e. rule-holds Seller m t (quantity-known us m (terms-left Buyer n rule (s .trades .rows) m) t e))
           (λ t e. whole-sum m t (quantity-known us m (terms-left Buyer n rule (s .trades .rows) m) t e))
           (leg-good t Seller) in
-        fair-o _ _ (next p o r (Intermediate q) a) _ (joined-is a) f2
+        fair-o _ _ (next p o r (Intermediate q) a) _ (filled-both a) f2
