@@ -73,9 +73,13 @@ all-numbered (u ∷ c) t = all-numbered c (changed-in number (number u) numbered
 unfoldable pub numbering : List Trade → State → State
 numbering c s =
     record {
-      day = s .day; trades = all-numbered c (s .trades); intermediations = s .intermediations; pairs = appended-in (new-pairs c s) (s .pairs);
+      day = s .day;
+      trades = all-numbered c (s .trades);
+      intermediations = s .intermediations;
+      pairs = appended-in (new-pairs c s) (s .pairs);
       selic = cond (by-selic c) (drop (length (chain-matches c)) (s .selic)) (s .selic);
-      control = cond (by-selic c) (s .control) (drop (length (chain-matches c)) (s .control)) }
+      control = cond (by-selic c) (s .control) (drop (length (chain-matches c)) (s .control));
+    }
 
 -- no chain, nothing to number
 abbrev pub with-numbers : List Trade → State → State

@@ -69,5 +69,11 @@ abbrev pub begun : Beginning → Run
 begun b = record {
   history = [];
   state = record {
-    day = b .day; trades = record { count = 0; size = b .trade-rows; rows = [] }; intermediations = record { count = 0; size = b .intermediation-rows; rows = [] };
-    pairs = record { count = 0; size = b .pair-rows; rows = [] }; selic = b .selic; control = b .control } }
+    day = b .day;
+    trades = record { count = 0; size = b .trade-rows; rows = [] };
+    intermediations = record { count = 0; size = b .intermediation-rows; rows = [] };
+    pairs = record { count = 0; size = b .pair-rows; rows = [] };
+    selic = b .selic;
+    control = b .control;
+  };
+}

@@ -69,9 +69,11 @@ one-used d b sold bought n h =
 
 level-on : (d b : Entry) (sold bought : List Entry) (n : ℕ) → n ≡ min (d .quantity) (b .quantity)
     → Level (d ∷ sold) (b ∷ bought) → Level (less n d sold) (less n b bought)
-level-on d b sold bought n h l =
-    (less-positive d sold n (l .0 .1), less-positive b bought n (l .1 .1),
-      omega (arith, less-total d sold n (omega arith), less-total b bought n (omega arith), l .2))
+level-on d b sold bought n h l = (
+  less-positive d sold n (l .0 .1),
+  less-positive b bought n (l .1 .1),
+  omega (arith, less-total d sold n (omega arith), less-total b bought n (omega arith), l .2),
+)
 
 -- ── What is taken ──
 
@@ -170,9 +172,12 @@ pairs-paired begun before ns first last sold bought e l d b enough =
       some = taken-some ps sold bought d b t;
       taken = t;
       numbered = record {
-        before = before; behind = drop n ns;
+        before = before;
+        behind = drop n ns;
         split = e ∙ ap (λ l. before ++ l) (sym (take-append-drop n ns)) ∙ sym (append-assoc before (take n ns) (drop n ns))
-          ∙ ap (λ l. before ++ l ++ drop n ns) (sym (numbers-given first last (matches sold bought) ns enough)) };
+            ∙ ap (λ l. before ++ l ++ drop n ns) (sym (numbers-given first last (matches sold bought) ns enough));
+      };
       sellers = taken-sellers ps sold bought l t;
       buyers = taken-buyers ps sold bought l t;
-      fewer = taken-fewer ps sold bought d t }
+      fewer = taken-fewer ps sold bought d t;
+    }

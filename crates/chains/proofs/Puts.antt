@@ -12,7 +12,6 @@ pub put-map : {X Y : Type 0} (g : X → Y) (a : ℕ) (x : X) (f : ℕ → X) (n 
 put-map g a x f n = put-cases (λ y. g y ≡ put a (g x) (λ k. g (f k)) n) a x f n
     (λ e z. sym (put-on a (g x) (λ k. g (f k)) n e z)) (λ q. sym (put-off a (g x) (λ k. g (f k)) n q))
 
-
 pub put-same : {X : Type 0} (a : ℕ) (x : X) (f : ℕ → X) (n : ℕ) → (Not0 a → x ≡ f a) → put a x f n ≡ f n
 put-same a x f n h = put-cases (λ y. y ≡ f n) a x f n (λ e z. h (λ d. z (e ∙ d)) ∙ ap f (sym e)) (λ _. refl)
 

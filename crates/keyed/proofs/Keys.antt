@@ -21,7 +21,7 @@ module _ {R : Type 0} (key : R → ℕ) where
   row-found n [] x h = absurd (none-some x h)
   row-found n (y ∷ ys) x h =
       ⊎-elim (λ (e : key y ≡ n).
-        let s : x ≡ y = sym (some-same y x (sym (row-here y ys n e) ∙ h)) in (inl s, ap key s ∙ e))
+      let s : x ≡ y = sym (some-same y x (sym (row-here y ys n e) ∙ h)) in (inl s, ap key s ∙ e))
       (λ (e : key y ≡ n → ⊥). let r = row-found n ys x (sym (row-past y ys n e) ∙ h) in (inr (r .0), r .1))
       (cases-eq (key y) n)
 
@@ -42,15 +42,13 @@ module _ {R : Type 0} (key : R → ℕ) where
       let p = and-parts (ltb k (key y)) (rises-above key (key y) ys) r in
       ⊎-elim (λ (e : x ≡ y). row-here y ys (key x) (ap key (sym e)) ∙ ap Some (sym e))
       (λ (j : In x ys).
-        let h : find key (key x) ys ≡ Some x = row-in (key y) ys x (p .1) j in
-        ⊎-elim (λ (e : key y ≡ key x). let le : key x ≤ key y = omega arith in absurd (none-some x (sym (below-absent (key y) (key x) ys (p .1) le) ∙ h)))
-        (λ (e : key y ≡ key x → ⊥). row-past y ys (key x) e ∙ h) (cases-eq (key y) (key x)))
+      let h : find key (key x) ys ≡ Some x = row-in (key y) ys x (p .1) j in
+      ⊎-elim (λ (e : key y ≡ key x). let le : key x ≤ key y = omega arith in absurd (none-some x (sym (below-absent (key y) (key x) ys (p .1) le) ∙ h)))
+      (λ (e : key y ≡ key x → ⊥). row-past y ys (key x) e ∙ h) (cases-eq (key y) (key x)))
       i
-
 
   pub rise-parts : (x : R) (xs : List R) (k : ℕ) → rises-above key k (x ∷ xs) ≡ true → (k < key x) × (rises-above key (key x) xs ≡ true)
   rise-parts x xs k r = let p = and-parts (ltb k (key x)) (rises-above key (key x) xs) r in (ltb-true _ _ (p .0), p .1)
-
 
   pub rises-weaker : (xs : List R) (k n : ℕ) → rises-above key k xs ≡ true → n ≤ k → rises-above key n xs ≡ true
   rises-weaker [] k n r l = refl
@@ -58,7 +56,6 @@ module _ {R : Type 0} (key : R → ℕ) where
       let p = rise-parts x xs k r in
       let b : k < key x = p .0 in
       let c : n < key x = omega arith in and-from _ _ (lt-ltb _ _ c) (p .1)
-
 
   pub rises-changed : (f : R → R) → ((x : R) → key (f x) ≡ key x) → (n : ℕ) (xs : List R) (k : ℕ)
       → rises-above key k xs ≡ true → rises-above key k (changed key n f xs) ≡ true
@@ -69,7 +66,6 @@ module _ {R : Type 0} (key : R → ℕ) where
       (λ (e : eqb (key x) n ≡ false). rw e (and-from _ _ (p .0) (rises-changed f keeps n xs (key x) (p .1))))
       (cases-bool (eqb (key x) n))
 
-
   pub rises-removed : (n : ℕ) (xs : List R) (k : ℕ) → rises-above key k xs ≡ true → rises-above key k (removed key n xs) ≡ true
   rises-removed n [] k r = refl
   rises-removed n (x ∷ xs) k r =
@@ -78,7 +74,6 @@ module _ {R : Type 0} (key : R → ℕ) where
       ⊎-elim (λ (e : eqb (key x) n ≡ true). rw e (rises-weaker xs (key x) k (p .1) (omega arith)))
       (λ (e : eqb (key x) n ≡ false). rw e (and-from _ _ (lt-ltb _ _ b) (rises-removed n xs (key x) (p .1))))
       (cases-bool (eqb (key x) n))
-
 
   pub rises-entered : (q : R) (xs : List R) (k : ℕ) → rises-above key k xs ≡ true → k < key q → find key (key q) xs ≡ None
       → rises-above key k (entered key q xs) ≡ true
@@ -135,7 +130,7 @@ module _ {R : Type 0} (key : R → ℕ) where
           → see (or-else d (find key m (changed key n f xs))) ≡ cond (eqb n m) y (see (or-else d (find key m xs)))
       seen-put n xs m y some none =
           ⊎-elim (λ (e : n ≡ m). rw (eq-eqb _ _ e) (ap (λ k. see (or-else d (find key k (changed key n f xs)))) (sym e)
-            ∙ ap (λ o. see (or-else d o)) (row-changed-same n xs) ∙ go (find key n xs) refl))
+          ∙ ap (λ o. see (or-else d o)) (row-changed-same n xs) ∙ go (find key n xs) refl))
           (λ (e : n ≡ m → ⊥). rw (ne-eqb _ _ e) (ap (λ o. see (or-else d o)) (row-changed-other n m xs e)))
           (cases-eq n m)
         where
@@ -147,7 +142,7 @@ module _ {R : Type 0} (key : R → ℕ) where
           → see (or-else d (find key m (changed key n f xs))) ≡ see (or-else d (find key m xs))
       seen-kept n xs m some =
           ⊎-elim (λ (e : n ≡ m). subst (λ k. see (or-else d (find key k (changed key n f xs))) ≡ see (or-else d (find key k xs))) e
-            (ap (λ o. see (or-else d o)) (row-changed-same n xs) ∙ go (find key n xs) refl))
+          (ap (λ o. see (or-else d o)) (row-changed-same n xs) ∙ go (find key n xs) refl))
           (λ (e : n ≡ m → ⊥). ap (λ o. see (or-else d o)) (row-changed-other n m xs e))
           (cases-eq n m)
         where
@@ -175,11 +170,11 @@ module _ {R : Type 0} (key : R → ℕ) where
   changed-swap f g kf kg c n m [] = refl
   changed-swap f g kf kg c n m (x ∷ xs) =
       ⊎-elim (λ (e : key x ≡ n). ⊎-elim (λ (i : key x ≡ m).
-        rw (eq-eqb _ _ e, eq-eqb _ _ i) (rw (eq-eqb (key (g x)) n (kg x ∙ e), eq-eqb (key (f x)) m (kf x ∙ i)) (ap (λ y. y ∷ xs) (c x))))
-        (λ (i : key x ≡ m → ⊥). rw (eq-eqb _ _ e, ne-eqb _ _ i) (rw (eq-eqb _ _ e, ne-eqb (key (f x)) m (λ y. i (sym (kf x) ∙ y))) refl)) (cases-eq (key x) m))
+      rw (eq-eqb _ _ e, eq-eqb _ _ i) (rw (eq-eqb (key (g x)) n (kg x ∙ e), eq-eqb (key (f x)) m (kf x ∙ i)) (ap (λ y. y ∷ xs) (c x))))
+      (λ (i : key x ≡ m → ⊥). rw (eq-eqb _ _ e, ne-eqb _ _ i) (rw (eq-eqb _ _ e, ne-eqb (key (f x)) m (λ y. i (sym (kf x) ∙ y))) refl)) (cases-eq (key x) m))
       (λ (e : key x ≡ n → ⊥). ⊎-elim (λ (i : key x ≡ m).
-        rw (ne-eqb _ _ e, eq-eqb _ _ i) (rw (ne-eqb (key (g x)) n (λ y. e (sym (kg x) ∙ y))) refl))
-        (λ (i : key x ≡ m → ⊥). rw (ne-eqb _ _ e, ne-eqb _ _ i) (rw (ne-eqb _ _ e) (ap (λ ys. x ∷ ys) (changed-swap f g kf kg c n m xs)))) (cases-eq (key x) m))
+      rw (ne-eqb _ _ e, eq-eqb _ _ i) (rw (ne-eqb (key (g x)) n (λ y. e (sym (kg x) ∙ y))) refl))
+      (λ (i : key x ≡ m → ⊥). rw (ne-eqb _ _ e, ne-eqb _ _ i) (rw (ne-eqb _ _ e) (ap (λ ys. x ∷ ys) (changed-swap f g kf kg c n m xs)))) (cases-eq (key x) m))
       (cases-eq (key x) n)
 
   -- a row entered
@@ -236,19 +231,19 @@ module _ {R : Type 0} (key : R → ℕ) where
   removed-none n m (x ∷ xs) h =
       ⊎-elim (λ (e : key x ≡ m). absurd (none-some x (sym h ∙ row-here x xs m e)))
       (λ (e : key x ≡ m → ⊥).
-        let k : find key m xs ≡ None = sym (row-past x xs m e) ∙ h in
-        elim (eqb (key x) n) as (λ b. find key m (cond b xs (x ∷ removed key n xs)) ≡ None)
-          [ true ↦ k | false ↦ row-past x (removed key n xs) m e ∙ removed-none n m xs k ])
+      let k : find key m xs ≡ None = sym (row-past x xs m e) ∙ h in
+      elim (eqb (key x) n) as (λ b. find key m (cond b xs (x ∷ removed key n xs)) ≡ None)
+      [ true ↦ k | false ↦ row-past x (removed key n xs) m e ∙ removed-none n m xs k ])
       (cases-eq (key x) m)
 
   pub removed-swap : (n m : ℕ) (xs : List R) → removed key n (removed key m xs) ≡ removed key m (removed key n xs)
   removed-swap n m [] = refl
   removed-swap n m (x ∷ xs) =
       ⊎-elim (λ (e : key x ≡ n). ⊎-elim (λ (i : key x ≡ m). subst (λ k. removed key n (removed key k (x ∷ xs)) ≡ removed key k (removed key n (x ∷ xs))) (sym e ∙ i) refl)
-        (λ (i : key x ≡ m → ⊥). rw (eq-eqb _ _ e, ne-eqb _ _ i) (rw (eq-eqb _ _ e) refl)) (cases-eq (key x) m))
+      (λ (i : key x ≡ m → ⊥). rw (eq-eqb _ _ e, ne-eqb _ _ i) (rw (eq-eqb _ _ e) refl)) (cases-eq (key x) m))
       (λ (e : key x ≡ n → ⊥). ⊎-elim (λ (i : key x ≡ m).
-        rw (ne-eqb _ _ e, eq-eqb _ _ i) refl)
-        (λ (i : key x ≡ m → ⊥). rw (ne-eqb _ _ e, ne-eqb _ _ i) (rw (ne-eqb _ _ e) (ap (λ ys. x ∷ ys) (removed-swap n m xs)))) (cases-eq (key x) m))
+      rw (ne-eqb _ _ e, eq-eqb _ _ i) refl)
+      (λ (i : key x ≡ m → ⊥). rw (ne-eqb _ _ e, ne-eqb _ _ i) (rw (ne-eqb _ _ e) (ap (λ ys. x ∷ ys) (removed-swap n m xs)))) (cases-eq (key x) m))
       (cases-eq (key x) n)
 
   pub length-removed : (n : ℕ) (xs : List R) (x : R) → find key n xs ≡ Some x → length (removed key n xs) ≡ length xs - 1
@@ -256,10 +251,10 @@ module _ {R : Type 0} (key : R → ℕ) where
   length-removed n (y ∷ ys) x h =
       ⊎-elim (λ (e : key y ≡ n). rw (eq-eqb _ _ e) (omega arith))
       (λ (e : key y ≡ n → ⊥).
-        let k : find key n ys ≡ Some x = sym (row-past y ys n e) ∙ h in
-        let ih = length-removed n ys x k in
-        let pos : 0 < length ys = some-length n ys x k in
-        rw (ne-eqb _ _ e) (omega arith))
+      let k : find key n ys ≡ Some x = sym (row-past y ys n e) ∙ h in
+      let ih = length-removed n ys x k in
+      let pos : 0 < length ys = some-length n ys x k in
+      rw (ne-eqb _ _ e) (omega arith))
       (cases-eq (key y) n)
     where
       some-length : (n : ℕ) (zs : List R) (x : R) → find key n zs ≡ Some x → 0 < length zs
@@ -287,4 +282,4 @@ module _ {R Q : Type 0} (key : R → ℕ) (kez : Q → ℕ) (h : R → Q) (keeps
   map-entered new (x ∷ xs) =
       let same : ltb (kez (h x)) (kez (h new)) ≡ ltb (key x) (key new) = ap (λ k. ltb k (kez (h new))) (keeps x) ∙ ap (ltb (key x)) (keeps new) in
       rw same (elim (ltb (key x) (key new)) as (λ b. map h (cond b (x ∷ entered key new xs) (new ∷ (x ∷ xs))) ≡ cond b (h x ∷ entered kez (h new) (map h xs)) (h new ∷ map h (x ∷ xs)))
-        [ true ↦ ap (λ ys. h x ∷ ys) (map-entered new xs) | false ↦ refl ])
+      [ true ↦ ap (λ ys. h x ∷ ys) (map-entered new xs) | false ↦ refl ])

@@ -22,7 +22,6 @@ pub from-in : {X : Type 0} (P : X → Type 0) (xs : List X) → ((x : X) → In 
 from-in P [] f = tt
 from-in P (x ∷ xs) f = (f x (inl refl), from-in P xs (λ y i. f y (inr i)))
 
-
 pub all-in : {X : Type 0} (p : X → Bool) (xs : List X) (x : X) → all p xs ≡ true → In x xs → p x ≡ true
 all-in p [] x h i = absurd i
 all-in p (y ∷ xs) x h (inl e) = ap p e ∙ and-parts _ _ h .0

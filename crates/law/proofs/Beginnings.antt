@@ -42,8 +42,14 @@ no-chain b first others c = false≢true (c .stands)
 pairs : (b : Beginning) → Pairs b [] (begun b .state)
 unfolding given written-since
 pairs b = record {
-  confirmed = λ f os c a. absurd (no-chain b f os c); unconfirmed = λ f os c a. refl; of-chains = tt; rows = refl; answered = tt;
-  selic-numbers = refl; control-numbers = refl }
+  confirmed = λ f os c a. absurd (no-chain b f os c);
+  unconfirmed = λ f os c a. refl;
+  of-chains = tt;
+  rows = refl;
+  answered = tt;
+  selic-numbers = refl;
+  control-numbers = refl;
+}
 
 pub beginning-lawful : Beginning-lawful
 beginning-lawful b = record { agrees = agrees b; sides = sides b; chains = chains b; pairs = pairs b }

@@ -69,9 +69,13 @@ module _ (s : State) (g : Sound s) where
       let zi : Not0 i = λ y. zm (sym e ∙ ap (view s .sold) y ∙ g .seen .selling .leg-none) in
       let h = held-by Buyer n zn zi in
       record {
-        by = h .by; stands = h .stands; bought = h .holds;
+        by = h .by;
+        stands = h .stands;
+        bought = h .holds;
         sold = ap (λ (y : Intermediation). y .sold) (sym (intermediation-of (h .by) (h .stands)) ∙ ap (intermediation s) (h .has-id)) ∙ e;
-        bought-there = not0-pos n zn; sold-there = not0-pos m zm }
+        bought-there = not0-pos n zn;
+        sold-there = not0-pos m zm;
+      }
 
   no-four : (a b c d : ℕ) → Link (s .intermediations .rows) a b → Link (s .intermediations .rows) b c → Link (s .intermediations .rows) c d → ⊥
   no-four a b c d p q r =

@@ -72,6 +72,7 @@ beyond-here ts xs w n m h = go (tie-in ts w n) h
     tied : (k : ℕ) (z : Bool) → cond z nothing (by-intermediation (tie-in ts) w n (find id k xs)) ≡ a-trade m → Here ts m
     tied k true h = let z : _≡_ {A = ℕ} 0 1 = cc in absurd (omega arith)
     tied k false h = by-here ts w n m (find id k xs) h
+
     go : (o : Option ℕ) → by-tie (tie-in ts) xs w n o ≡ a-trade m → Here ts m
     go None h = let z : _≡_ {A = ℕ} 0 1 = cc in absurd (omega arith)
     go (Some k) h = tied k (eqb k 0) h
@@ -151,9 +152,11 @@ part-changed g f key same k n (t ∷ ts) = go (part-changed g f key same k n ts)
     front : (z : Bool) → g (or-else no-trade (cond z (Some (f t)) (find number n ts))) ≡ g (or-else no-trade (cond z (Some t) (find number n ts)))
     front true = same t
     front false = refl
+
     behind : (us : List Trade) → g (trade-in us n) ≡ g (trade-in ts n) → (z : Bool) → g (or-else no-trade (cond z (Some t) (find number n us))) ≡ g (or-else no-trade (cond z (Some t) (find number n ts)))
     behind us ih true = refl
     behind us ih false = ih
+
     go : g (trade-in (changed number k f ts) n) ≡ g (trade-in ts n) → (z : Bool) → g (trade-in (cond z (f t ∷ ts) (t ∷ changed number k f ts)) n) ≡ g (trade-in (t ∷ ts) n)
     go ih true = ap (λ m. g (or-else no-trade (cond (eqb m n) (Some (f t)) (find number n ts)))) (key t) ∙ front (eqb (number t) n)
     go ih false = behind (changed number k f ts) ih (eqb (number t) n)

@@ -159,10 +159,11 @@ module _ (ts : List Trade) (xs : List Intermediation) (half : (w : Side) → Hal
   none-line q f h =
       let nx = on ts xs Buyer in
       let a = or-parts (q f) (any q (ahead Buyer f)) h in
-      let b : Not0 (nx f) → (q (nx f) || any q (cond (eqb (nx (nx f)) 0) [] (nx (nx f) ∷ []))) ≡ false = λ z. rw (ne-eqb (nx f) 0 z) at (a .1) in
-      (a .0,
-      (λ z. or-parts _ _ (b z) .0),
-      (λ z y. or-parts (q (nx (nx f))) false (sym (ap (λ c. any q (cond c [] (nx (nx f) ∷ []))) (ne-eqb (nx (nx f)) 0 y)) ∙ or-parts _ _ (b z) .1) .0))
+      let b : Not0 (nx f) → (q (nx f) || any q (cond (eqb (nx (nx f)) 0) [] (nx (nx f) ∷ []))) ≡ false = λ z. rw (ne-eqb (nx f) 0 z) at (a .1) in (
+        a .0,
+        (λ z. or-parts _ _ (b z) .0),
+        (λ z y. or-parts (q (nx (nx f))) false (sym (ap (λ c. any q (cond c [] (nx (nx f) ∷ []))) (ne-eqb (nx (nx f)) 0 y)) ∙ or-parts _ _ (b z) .1) .0),
+      )
 
   pub last-line : (f : ℕ) → on ts xs Buyer 0 ≡ 0 → last-of (line f) ≡ trade-in ts (far (on ts xs Buyer) f)
   last-line f z =

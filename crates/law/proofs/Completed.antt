@@ -81,7 +81,8 @@ full-ends day h s sides chains sound first others full =
     record {
       level = (a .seller, z .buyer, sold ∙ sym same ∙ sym bought);
       sellers = some-entries (entries-held (trade s first .seller)) (subst (λ n. 0 < n) (sym sold) (a .quantity));
-      buyers = some-entries (entries-held (trade s (final first others) .buyer)) (subst (λ n. 0 < n) (sym bought) (z .quantity)) }
+      buyers = some-entries (entries-held (trade s (final first others) .buyer)) (subst (λ n. 0 < n) (sym bought) (z .quantity));
+    }
 
 -- ── A completed chain ──
 
@@ -103,7 +104,7 @@ pub paired-after : (b : Beginning) (h k : History) (s u : State) (x : Trade) (us
     → Issued b h (s .selic) (s .control) → Unnumbered s u → Each (Found (u .trades .rows)) (x ∷ us) → length (chain-matches (x ∷ us)) ≤ length (issuer (x ∷ us) s)
     → Each Sound-trade (u .trades .rows) → Sides (b .day) k (numbering (x ∷ us) u) → Chains (numbering (x ∷ us) u) → Full (numbering (x ∷ us) u) (number x) (map number us)
     → Paired (begun-for b (trade (numbering (x ∷ us) u) (number x) .terms)) (entries-held (trade (numbering (x ∷ us) u) (number x) .seller))
-      (entries-held (trade (numbering (x ∷ us) u) (final (number x) (map number us)) .buyer)) (new-pairs (x ∷ us) u)
+    (entries-held (trade (numbering (x ∷ us) u) (final (number x) (map number us)) .buyer)) (new-pairs (x ∷ us) u)
 unfolding numbering
 paired-after b h k s u x us issued same found enough sound sides chains full =
     let c : List Trade = x ∷ us in
@@ -117,8 +118,8 @@ paired-after b h k s u x us issued same found enough sound sides chains full =
     let begun : begun-for b (x .terms) ≡ given (by-selic c) (b .day) h ++ issuer c u = begun-before b h (by-selic c) (s .selic) (s .control) issued ∙ ap (λ l. given (by-selic c) (b .day) h ++ l) left in
     let level : Level (entries-held (x .seller)) (entries-held (z .buyer)) = subst (λ d. Level (entries-held (x .seller)) (entries-held d)) bought (subst (λ d. Level (entries-held d) (entries-held (trade (numbering c u) (number z) .buyer))) sold (there .level)) in
     let paired : Paired (begun-for b (x .terms)) (entries-held (x .seller)) (entries-held (z .buyer)) (new-pairs c u) =
-      pairs-paired (begun-for b (x .terms)) (given (by-selic c) (b .day) h) (issuer c u) (number x) (number z) (entries-held (x .seller)) (entries-held (z .buyer)) begun level
-      (subst (λ d. 0 < length (entries-held d)) sold (there .sellers)) (subst (λ d. 0 < length (entries-held d)) bought (there .buyers)) (omega (arith, enough, ap length left)) in
+    pairs-paired (begun-for b (x .terms)) (given (by-selic c) (b .day) h) (issuer c u) (number x) (number z) (entries-held (x .seller)) (entries-held (z .buyer)) begun level
+    (subst (λ d. 0 < length (entries-held d)) sold (there .sellers)) (subst (λ d. 0 < length (entries-held d)) bought (there .buyers)) (omega (arith, enough, ap length left)) in
     subst (λ n. Paired (begun-for b (trade (numbering c u) (number x) .terms)) (entries-held (trade (numbering c u) (number x) .seller)) (entries-held (trade (numbering c u) n .buyer)) (new-pairs c u)) (sym (final-last x us))
     (subst (λ d. Paired (begun-for b (trade (numbering c u) (number x) .terms)) (entries-held (trade (numbering c u) (number x) .seller)) (entries-held d) (new-pairs c u)) (sym bought)
     (subst (λ d. Paired (begun-for b (trade (numbering c u) (number x) .terms)) (entries-held d) (entries-held (z .buyer)) (new-pairs c u)) (sym sold)

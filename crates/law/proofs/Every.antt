@@ -36,7 +36,6 @@ pub record Held (b : Beginning) (h : History) (s : State) : Type 0 where
   pub pairs : Pairs b h s
 
 module _ (b : Beginning) (h : History) (r : List Listed) (s : State) (q : Request) (k : Held b h s) (pass : Passed r s q) where
-
   hold : Confirmed-hold r s q
   hold m c = ends-hold (placed r s q) (placed-sound r s q m pass c)
       (placed-fair (plain (b .day) h) (λ w n. last-filling (b .day) w n h) r s (fair-from (b .day) h s (k .kept .agrees) (k .kept .sides)) (chains s (k .sound)) q pass .adds)
@@ -148,7 +147,8 @@ held-step b h s c k = go (verdict (c .register) s (c .asked)) refl
     go None e = record {
       sound = sound-after b h (c .register) s (c .asked) k (all-passed (c .register) s (c .asked) e);
       kept = kept-after b h (c .register) s (c .asked) k (all-passed (c .register) s (c .asked) e);
-      pairs = pairs-after b h (c .register) s (c .asked) k (all-passed (c .register) s (c .asked) e) }
+      pairs = pairs-after b h (c .register) s (c .asked) k (all-passed (c .register) s (c .asked) e);
+    }
 
 pub held-ran : (b : Beginning) (run : Run) (cs : List Call) → Held b (run .history) (run .state) → Held b (ran run cs .history) (ran run cs .state)
 unfolding ran

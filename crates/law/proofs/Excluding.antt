@@ -35,12 +35,14 @@ module _ (s : State) (g : Sound s) where
           let i-is : Not0 i = λ z. none-some x (sym (below-absent id 0 i (s .intermediations .rows) (g .intermediation-keys) (let y : i ≡ 0 = z in omega arith)) ∙ e) in
           let t : State = with-intermediations (removed-in id i) (at-trade (intermediation s i .sold) (at-side Seller emptied) (at-trade (intermediation s i .bought) (at-side Buyer emptied) s)) in
           let same : excluded i s ≡ t = ap (λ o. excluded-by o i s) e ∙ ap (λ y. excluded-by (Some y) i s) (sym found) in
-          let shown : view t ≡ exclude i (view s) = excluded-view i (s .trades .rows) (s .intermediations .rows) (s .pairs .rows) (there-of s g Buyer i) (there-of s g Seller i) (none0 s g) i-is (g .intermediation-keys) in
-          (ap view same ∙ shown, subst Sound (sym same) (record {
-            seen = subst Seen (sym shown) h;
-            trade-keys = rises-changed number (at-side Seller emptied) (λ _. refl) (intermediation s i .sold) _ 0 (side-keys s g Buyer (intermediation s i .bought) emptied);
-            intermediation-keys = rises-removed id i (s .intermediations .rows) 0 (g .intermediation-keys);
-          }))
+          let shown : view t ≡ exclude i (view s) = excluded-view i (s .trades .rows) (s .intermediations .rows) (s .pairs .rows) (there-of s g Buyer i) (there-of s g Seller i) (none0 s g) i-is (g .intermediation-keys) in (
+            ap view same ∙ shown,
+            subst Sound (sym same) (record {
+              seen = subst Seen (sym shown) h;
+              trade-keys = rises-changed number (at-side Seller emptied) (λ _. refl) (intermediation s i .sold) _ 0 (side-keys s g Buyer (intermediation s i .bought) emptied);
+              intermediation-keys = rises-removed id i (s .intermediations .rows) 0 (g .intermediation-keys);
+            }),
+          )
 
   -- the legs of an intermediation that may be excluded are not numbered
   pub exclude-open : (q : IntermediationCall) → Tables s → Excludes s q → (view s .num (intermediation s (q .id) .bought) ≡ false) × (view s .num (intermediation s (q .id) .sold) ≡ false)

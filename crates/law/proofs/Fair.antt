@@ -75,7 +75,7 @@ module _ (v : Side) (n : ℕ) (g : Trade → Allocation → Allocation) (ts : Li
   pub there-left : (m : ℕ) → is-some (find number m (changed number n (by v g) ts)) ≡ is-some (find number m ts)
   there-left m =
       ⊎-elim (λ (e : n ≡ m). subst (λ k. is-some (find number k (changed number n (by v g) ts)) ≡ is-some (find number k ts)) e
-        (ap is-some (row-changed-same number (by v g) (by-number v g) n ts) ∙ go (find number n ts)))
+      (ap is-some (row-changed-same number (by v g) (by-number v g) n ts) ∙ go (find number n ts)))
       (λ (e : n ≡ m → ⊥). ap is-some (row-changed-other number (by v g) (by-number v g) n m ts e)) (cases-eq n m)
     where
       go : (o : Option Trade) → is-some (mapped (by v g) o) ≡ is-some o
@@ -135,7 +135,9 @@ agrees-at v n g st h p s a = record {
   trades = map-changed number plain-number as-plain plain-number-is (by v g) (put v st) (told-by v g st h) n (s .trades .rows) ∙ ap (changed plain-number n (put v st)) (a .trades);
   intermediations = a .intermediations;
   trade-count = a .trade-count ∙ sym (length-changed number (by v g) (by-number v g) n (s .trades .rows));
-  intermediation-count = a .intermediation-count; pair-count = a .pair-count }
+  intermediation-count = a .intermediation-count;
+  pair-count = a .pair-count;
+}
 
 -- ── Numbering ──
 
@@ -187,9 +189,11 @@ numbering-fair p o (t ∷ c) s f =
         intermediations = a .intermediations;
         trade-count = all-numbered-count (t ∷ c) (s .trades) ∙ a .trade-count ∙ sym (all-numbered-length (t ∷ c) (s .trades));
         intermediation-count = a .intermediation-count;
-        pair-count = ap (λ n. n + length (new-pairs (t ∷ c) s)) (a .pair-count) ∙ sym (length-append (s .pairs .rows) (new-pairs (t ∷ c) s)) };
+        pair-count = ap (λ n. n + length (new-pairs (t ∷ c) s)) (a .pair-count) ∙ sym (length-append (s .pairs .rows) (new-pairs (t ∷ c) s));
+      };
       sided = λ w n. subst (λ es. Sided (o w n) w es) (sym (all-numbered-held (t ∷ c) (s .trades) w n)) (f .sided w n);
-      adds = λ w. all-numbered-adds (t ∷ c) (s .trades) w (f .adds w) }
+      adds = λ w. all-numbered-adds (t ∷ c) (s .trades) w (f .adds w);
+    }
 
 -- ── What the plain book knows of a trade ──
 

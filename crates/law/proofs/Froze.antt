@@ -44,8 +44,9 @@ pub frozen-then : (s t u : State) → Frozen s t → Frozen t u → Frozen s u
 frozen-then s t u f k = record {
   parts = λ m h. same-then _ _ _ (k .parts m (frozen-num s t f m h)) (f .parts m h);
   intermediations = λ w m h.
-    let e : allocation w (trade t m) .tie ≡ allocation w (trade s m) .tie = tie-same w (trade t m) (trade s m) (f .parts m h) in
-    ap (intermediation u) (sym e) ∙ k .intermediations w m (frozen-num s t f m h) ∙ ap (intermediation t) e ∙ f .intermediations w m h }
+      let e : allocation w (trade t m) .tie ≡ allocation w (trade s m) .tie = tie-same w (trade t m) (trade s m) (f .parts m h) in
+      ap (intermediation u) (sym e) ∙ k .intermediations w m (frozen-num s t f m h) ∙ ap (intermediation t) e ∙ f .intermediations w m h;
+}
   where
     tie-same : (w : Side) (x y : Trade) → Same x y → allocation w x .tie ≡ allocation w y .tie
     tie-same Buyer x y p = ap (λ d. d .tie) (p .buyer)
@@ -131,9 +132,10 @@ module _ (s t : State) (g : Sound s) (k : Sound t) (f : Frozen s t) where
       let n = full-num s g first others full in
       let o = others-are s g first others (full .chain) in
       let nums : Each (λ m. view s .num m ≡ true) others = subst (Each (λ m. view s .num m ≡ true)) (sym o) (each-behind s g (λ m. view s .num m ≡ true) first (n .0) (λ m h z. g .seen .numbers .num-next m h z)) in
-      let end : view s .num (final first others) ≡ true = final-each (λ m. view s .num m ≡ true) first others (n .0) nums in
-      (subst (Full t first) (sym o) (still-full first (n .0) (n .1)),
-        record { terms = f .parts first (n .0) .terms; sold = ap entries-held (f .parts first (n .0) .seller); bought = ap entries-held (f .parts (final first others) end .buyer) })
+      let end : view s .num (final first others) ≡ true = final-each (λ m. view s .num m ≡ true) first others (n .0) nums in (
+        subst (Full t first) (sym o) (still-full first (n .0) (n .1)),
+        record { terms = f .parts first (n .0) .terms; sold = ap entries-held (f .parts first (n .0) .seller); bought = ap entries-held (f .parts (final first others) end .buyer) },
+      )
 
   -- a numbered chain of after, numbered before
   pub was-full : (first : ℕ) (others : List ℕ) → Full t first others → view s .num first ≡ true → Full s first others

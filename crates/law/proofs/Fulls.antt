@@ -42,10 +42,12 @@ module _ (s : State) (g : Sound s) where
   pub each-behind : (P : ℕ → Type 0) (f : ℕ) → P f → ((n : ℕ) → P n → Not0 (after n) → P (after n)) → Each P (behind after f)
   each-behind P f p more =
       ⊎-elim (λ (e : after f ≡ 0). rw (eq-eqb _ _ e) tt)
-      (λ (e : Not0 (after f)). rw (ne-eqb _ _ e) (more f p e,
-      ⊎-elim (λ (d : after (after f) ≡ 0). subst (λ b. Each P (cond b [] (after (after f) ∷ []))) (sym (eq-eqb _ _ d)) tt)
-      (λ (d : Not0 (after (after f))). subst (λ b. Each P (cond b [] (after (after f) ∷ []))) (sym (ne-eqb _ _ d)) (more (after f) (more f p e) d, tt))
-      (cases-eq (after (after f)) 0)))
+      (λ (e : Not0 (after f)). rw (ne-eqb _ _ e) (
+        more f p e,
+        ⊎-elim (λ (d : after (after f) ≡ 0). subst (λ b. Each P (cond b [] (after (after f) ∷ []))) (sym (eq-eqb _ _ d)) tt)
+            (λ (d : Not0 (after (after f))). subst (λ b. Each P (cond b [] (after (after f) ∷ []))) (sym (ne-eqb _ _ d)) (more (after f) (more f p e) d, tt))
+            (cases-eq (after (after f)) 0),
+      ))
       (cases-eq (after f) 0)
 
   pub final-behind : (f : ℕ) → final f (behind after f) ≡ last (view s) f
@@ -77,8 +79,10 @@ module _ (s : State) (g : Sound s) where
           none-before = λ n l. let e = link-next s g n f l in
               pos-not0 n (l .bought-there) (sym (w .there n (λ y. num-not0 f h (sym e ∙ y))) ∙ ap (prev (view s)) e ∙ p);
           none-behind = λ n l. pos-not0 n (l .sold-there) (sym (link-next s g _ n l) ∙ ap after (final-behind f)
-              ∙ far-stops (prev (view s)) (next (view s)) (turned (next (view s)) (prev (view s)) w) f) };
-        confirmed = (sure f h, sures (behind after f) nums) }
+              ∙ far-stops (prev (view s)) (next (view s)) (turned (next (view s)) (prev (view s)) w) f);
+        };
+        confirmed = (sure f h, sures (behind after f) nums);
+      }
     where
       sure : (n : ℕ) → view s .num n ≡ true → both-confirmed (trade s n) ≡ true
       sure n k = full-both n (num-not0 n k) (g .seen .numbers .num-full n k)
@@ -122,6 +126,8 @@ module _ (s : State) (g : Sound s) where
       (λ (d : Not0 (after (after f))).
       let e : Not0 (after f) = λ y. d (ap after y ∙ w .next-none) in
       let k = subst (λ b. All-confirmed s (cond b [] (after f ∷ cond (eqb (after (after f)) 0) [] (after (after f) ∷ [])))) (ne-eqb _ _ e) (c .1) .1 in
-      both-full (after (after f)) (subst (λ b. All-confirmed s (cond b [] (after (after f) ∷ []))) (ne-eqb _ _ d) k .0)) (cases-eq (after (after f)) 0) in
-      (g .seen .numbers .full-num f z (subst (λ k. whole-from (next (view s)) (full (view s)) k ≡ true) (sym (first-is (next (view s)) (prev (view s)) w f p))
-      (whole-made (next (view s)) (prev (view s)) (full (view s)) f (both-full f (c .0)) f2 f3)), p)
+      both-full (after (after f)) (subst (λ b. All-confirmed s (cond b [] (after (after f) ∷ []))) (ne-eqb _ _ d) k .0)) (cases-eq (after (after f)) 0) in (
+        g .seen .numbers .full-num f z (subst (λ k. whole-from (next (view s)) (full (view s)) k ≡ true) (sym (first-is (next (view s)) (prev (view s)) w f p))
+            (whole-made (next (view s)) (prev (view s)) (full (view s)) f (both-full f (c .0)) f2 f3)),
+        p,
+      )

@@ -62,7 +62,7 @@ rows-named-new old new n count c e =
     cond-both (eqb n 0) (Written 0 0) (Written n (count + 1)) (λ a. rows-named (Ok a) (old ++ new) ≡ new)
     (λ t. let z = eqb-true n 0 t in sym (nil-of new (omega arith)))
     (λ t. let m : count + 1 - 1 ≡ count = omega arith in
-      ap (λ k. take n (drop k (old ++ new))) m ∙ ap (take n) (drop-at old new count (sym c)) ∙ take-all n new (omega arith))
+    ap (λ k. take n (drop k (old ++ new))) m ∙ ap (take n) (drop-at old new count (sym c)) ∙ take-all n new (omega arith))
 
 pub named-new : (n count before grown : ℕ) → count ≡ before → grown ≡ n → Named (Ok (written n count)) before grown
 named-new n count before grown c e =
@@ -80,11 +80,11 @@ same-kept : (selic : Bool) (day : ℕ) (h : History) (k : Bool) (first : ℕ) (p
 same-kept selic day h k first ps e each =
     cond-both (Bool·beq k selic) ps [] (λ l. those (λ p. Bool·beq (is-selic (terms-in (plain day h) (p .first) .kind)) selic) ps ≡ l)
     (λ t. those-all (λ p. Bool·beq (is-selic (terms-in (plain day h) (p .first) .kind)) selic) ps
-      (each-map (λ p. p .first ≡ first) (λ p. Bool·beq (is-selic (terms-in (plain day h) (p .first) .kind)) selic ≡ true)
-      (λ p f. ap (λ m. Bool·beq (is-selic (terms-in (plain day h) m .kind)) selic) f ∙ ap (λ b. Bool·beq b selic) e ∙ t) ps each))
+    (each-map (λ p. p .first ≡ first) (λ p. Bool·beq (is-selic (terms-in (plain day h) (p .first) .kind)) selic ≡ true)
+    (λ p f. ap (λ m. Bool·beq (is-selic (terms-in (plain day h) m .kind)) selic) f ∙ ap (λ b. Bool·beq b selic) e ∙ t) ps each))
     (λ t. those-none (λ p. Bool·beq (is-selic (terms-in (plain day h) (p .first) .kind)) selic) ps
-      (each-map (λ p. p .first ≡ first) (λ p. Bool·beq (is-selic (terms-in (plain day h) (p .first) .kind)) selic ≡ false)
-      (λ p f. ap (λ m. Bool·beq (is-selic (terms-in (plain day h) m .kind)) selic) f ∙ ap (λ b. Bool·beq b selic) e ∙ t) ps each))
+    (each-map (λ p. p .first ≡ first) (λ p. Bool·beq (is-selic (terms-in (plain day h) (p .first) .kind)) selic ≡ false)
+    (λ p f. ap (λ m. Bool·beq (is-selic (terms-in (plain day h) m .kind)) selic) f ∙ ap (λ b. Bool·beq b selic) e ∙ t) ps each))
 
 -- an event that wrote pairs of one chain, its first trade of this kind
 pub given-more : (selic : Bool) (day : ℕ) (h : History) (e : Event) (k : Bool) (first : ℕ) → is-selic (terms-in (plain day h) first .kind) ≡ k → Each (λ p. p .first ≡ first) (e .wrote)
@@ -110,17 +110,20 @@ pub issued-more : (b : Beginning) (h : History) (e : Event) (k : Bool) (first n 
     → Issued b h selic control → Issued b (e ∷ h) (cond k (drop n selic) selic) (cond k control (drop n control))
 issued-more b h e true first n selic control is each ns i = record {
   selic-numbers = ap (λ l. l ++ drop n selic) (given-more true (b .day) h e true first is each ∙ ap (λ l. given true (b .day) h ++ l) ns)
-    ∙ moved (given true (b .day) h) n selic (b .selic) (i .selic-numbers);
-  control-numbers = ap (λ l. l ++ control) (given-more false (b .day) h e true first is each ∙ append-nil (given false (b .day) h)) ∙ i .control-numbers }
+      ∙ moved (given true (b .day) h) n selic (b .selic) (i .selic-numbers);
+  control-numbers = ap (λ l. l ++ control) (given-more false (b .day) h e true first is each ∙ append-nil (given false (b .day) h)) ∙ i .control-numbers;
+}
 issued-more b h e false first n selic control is each ns i = record {
   selic-numbers = ap (λ l. l ++ selic) (given-more true (b .day) h e false first is each ∙ append-nil (given true (b .day) h)) ∙ i .selic-numbers;
   control-numbers = ap (λ l. l ++ drop n control) (given-more false (b .day) h e false first is each ∙ ap (λ l. given false (b .day) h ++ l) ns)
-    ∙ moved (given false (b .day) h) n control (b .control) (i .control-numbers) }
+      ∙ moved (given false (b .day) h) n control (b .control) (i .control-numbers);
+}
 
 pub issued-none : (b : Beginning) (h : History) (e : Event) (selic control : List ℕ) → e .wrote ≡ [] → Issued b h selic control → Issued b (e ∷ h) selic control
 issued-none b h e selic control none i = record {
   selic-numbers = ap (λ l. l ++ selic) (given-none true (b .day) h e none) ∙ i .selic-numbers;
-  control-numbers = ap (λ l. l ++ control) (given-none false (b .day) h e none) ∙ i .control-numbers }
+  control-numbers = ap (λ l. l ++ control) (given-none false (b .day) h e none) ∙ i .control-numbers;
+}
 
 -- where an issuer's list stands: for `pairs-paired`
 pub begun-before : (b : Beginning) (h : History) (k : Bool) (selic control : List ℕ) → Issued b h selic control
@@ -137,7 +140,10 @@ pub record Counted (b : Beginning) (h : History) (s : State) : Type 0 where
 
 pub counted-of : (b : Beginning) (h : History) (s : State) → Pairs b h s → Counted b h s
 counted-of b h s p = record {
-  rows = p .rows; answered = p .answered; issued = record { selic-numbers = p .selic-numbers; control-numbers = p .control-numbers } }
+  rows = p .rows;
+  answered = p .answered;
+  issued = record { selic-numbers = p .selic-numbers; control-numbers = p .control-numbers };
+}
 
 -- n new pairs of one chain
 pub wrote-new : (b : Beginning) (h : History) (s t : State) (c : Call) (n first : ℕ) (k : Bool) (new : List Pair)
@@ -152,7 +158,8 @@ wrote-new b h s t c n first k new open-still count grown long is each ns selic c
     record {
       rows = grown ∙ ap (λ l. l ++ new) (kept .rows) ∙ ap (λ l. written-since h ++ l) (sym w) ∙ sym (ap (λ z. cond z [] (written-since h ++ e .wrote)) open-still);
       answered = (named-new n (s .pairs .count) (length (written-since h)) (length (e .wrote)) (count ∙ ap length (kept .rows)) (ap length w ∙ long), kept .answered);
-      issued = rw (selic, control) (issued-more b h e k first n (s .selic) (s .control) is (subst (Each (λ p. p .first ≡ first)) (sym w) each) (ap numbers w ∙ ns) (kept .issued)) }
+      issued = rw (selic, control) (issued-more b h e k first n (s .selic) (s .control) is (subst (Each (λ p. p .first ≡ first)) (sym w) each) (ap numbers w ∙ ns) (kept .issued));
+    }
 
 -- an answer that names no rows
 pub record Names-none (a : Answer) : Type 0 where
@@ -176,7 +183,8 @@ wrote-nothing b h s t c a names open-still same selic control kept =
     record {
       rows = same ∙ kept .rows ∙ sym (append-nil (written-since h)) ∙ ap (λ l. written-since h ++ l) (sym w) ∙ sym (ap (λ z. cond z [] (written-since h ++ e .wrote)) open-still);
       answered = (subst (λ n. Named (Ok a) (length (written-since h)) n) (sym (ap length w)) (names .named (length (written-since h))), kept .answered);
-      issued = rw (selic, control) (issued-none b h e (s .selic) (s .control) w (kept .issued)) }
+      issued = rw (selic, control) (issued-none b h e (s .selic) (s .control) w (kept .issued));
+    }
 
 -- a closing
 pub closed : (b : Beginning) (h : History) (s t : State) (c : Call)
@@ -188,7 +196,8 @@ closed b h s t c closing none selic control kept =
     record {
       rows = none ∙ sym (ap (λ z. cond z [] (written-since h ++ e .wrote)) closing);
       answered = (none-written .named (length (written-since h)), kept .answered);
-      issued = rw (selic, control) (issued-none b h e (s .selic) (s .control) refl (kept .issued)) }
+      issued = rw (selic, control) (issued-none b h e (s .selic) (s .control) refl (kept .issued));
+    }
 
 -- a refusal
 pub refused : (b : Beginning) (h : History) (s : State) (c : Call) (f : Refusal) → Counted b h s → Counted b (event c (Err f) s ∷ h) s
@@ -200,5 +209,11 @@ pub refused-pairs : (b : Beginning) (h : History) (s : State) (c : Call) (f : Re
 refused-pairs b h s c f p =
     let k = refused b h s c f (counted-of b h s p) in
     record {
-      confirmed = p .confirmed; unconfirmed = p .unconfirmed; of-chains = p .of-chains; rows = k .rows; answered = k .answered;
-      selic-numbers = k .issued .selic-numbers; control-numbers = k .issued .control-numbers }
+      confirmed = p .confirmed;
+      unconfirmed = p .unconfirmed;
+      of-chains = p .of-chains;
+      rows = k .rows;
+      answered = k .answered;
+      selic-numbers = k .issued .selic-numbers;
+      control-numbers = k .issued .control-numbers;
+    }

@@ -31,9 +31,10 @@ module _ (p : Plain) (o : Side → ℕ → Option Filling) (s : State) (f : Fair
     empty-leg = record {
       agrees = agrees-at v n (λ t. emptied) Empty (λ t d. refl) p s (f .agrees);
       sided = λ w m. subst (λ es. Sided (cond (on-leg v n w m) None (o w m)) w es)
-        (sym (held-leg v n (λ t. emptied) (s .trades .rows) [] zero (λ t e. refl) (λ i e. refl) w m))
-        (sided-cond (on-leg v n w m) None (o w m) w [] (held-in (s .trades .rows) w m) (λ e. (refl, tt)) (f .sided w m));
-      adds = adds-at v n (λ t. emptied) (s .trades .rows) (λ t e k z. absurd (true≢false z)) (f .adds) }
+          (sym (held-leg v n (λ t. emptied) (s .trades .rows) [] zero (λ t e. refl) (λ i e. refl) w m))
+          (sided-cond (on-leg v n w m) None (o w m) w [] (held-in (s .trades .rows) w m) (λ e. (refl, tt)) (f .sided w m));
+      adds = adds-at v n (λ t. emptied) (s .trades .rows) (λ t e k z. absurd (true≢false z)) (f .adds);
+    }
 
     not-zero : (t : Trade) → find number n (s .trades .rows) ≡ Some t → not (eqb n 0) ≡ true
     not-zero t e = ap not (ne-eqb n 0 (λ i. none-some t (sym zero ∙ ap (λ k. find number k (s .trades .rows)) (sym i) ∙ e)))
@@ -42,9 +43,10 @@ module _ (p : Plain) (o : Side → ℕ → Option Filling) (s : State) (f : Fair
     confirm-leg full = record {
       agrees = agrees-at v n (λ t. confirmed) Confirmed (λ t d. refl) p s (f .agrees);
       sided = λ w m. subst (λ es. Sided (o w m) w es)
-        (sym (held-kept v n (λ t. confirmed) (s .trades .rows) (λ t e. held-confirmed (allocation v t) (is-full t e)) w m)) (f .sided w m);
+          (sym (held-kept v n (λ t. confirmed) (s .trades .rows) (λ t e. held-confirmed (allocation v t) (is-full t e)) w m)) (f .sided w m);
       adds = adds-at v n (λ t. confirmed) (s .trades .rows) (λ t e k z.
-        ap (λ es. total (map (λ (e : KeptEntry). e .entry) es)) (held-confirmed (allocation v t) (is-full t e)) ∙ k (is-full t e)) (f .adds) }
+          ap (λ es. total (map (λ (e : KeptEntry). e .entry) es)) (held-confirmed (allocation v t) (is-full t e)) ∙ k (is-full t e)) (f .adds);
+    }
       where
         is-full : (t : Trade) → find number n (s .trades .rows) ≡ Some t → is-empty (allocation v t .state) ≡ false
         is-full t e = ap (λ (x : Option Trade). is-empty (allocation v (or-else no-trade x) .state)) (sym e) ∙ full (not-zero t e)
@@ -59,26 +61,42 @@ module _ (p : Plain) (o : Side → ℕ → Option Filling) (s : State) (f : Fair
     fill-leg g st fill es state there holds sum good = record {
       agrees = agrees-at v n g st state p s (f .agrees);
       sided = λ w m. subst (λ ds. Sided (cond (on-leg v n w m) (Some (fill m)) (o w m)) w ds)
-        (sym (held-leg v n g (s .trades .rows) es zero holds (λ i e. absurd (false≢true (sym (ap is-some e) ∙ there i))) w m))
-        (sided-cond (on-leg v n w m) (Some (fill m)) (o w m) w es (held-in (s .trades .rows) w m)
+          (sym (held-leg v n g (s .trades .rows) es zero holds (λ i e. absurd (false≢true (sym (ap is-some e) ∙ there i))) w m))
+          (sided-cond (on-leg v n w m) (Some (fill m)) (o w m) w es (held-in (s .trades .rows) w m)
           (λ e. let b = and-parts _ _ e in let c = and-parts _ _ (b .1) in
-            subst₂ (λ w m. Sided (Some (fill m)) w es) (same-side v w (b .0)) (eqb-true n m (c .1)) (good (c .0)))
+          subst₂ (λ w m. Sided (Some (fill m)) w es) (same-side v w (b .0)) (eqb-true n m (c .1)) (good (c .0)))
           (f .sided w m));
-      adds = adds-at v n g (s .trades .rows) (λ t e k z. ap (λ ds. total (map (λ (e : KeptEntry). e .entry) ds)) (holds t e) ∙ sum t e) (f .adds) }
+      adds = adds-at v n g (s .trades .rows) (λ t e k z. ap (λ ds. total (map (λ (e : KeptEntry). e .entry) ds)) (holds t e) ∙ sum t e) (f .adds);
+    }
 
   pub enter-row : (x : Intermediation) → Fair (record { day = p .day; trades = p .trades; standing = entered id x (p .standing) }) o (with-intermediations (entered-in id x) s)
   enter-row x = let a = f .agrees in record {
-    agrees = record { day = a .day; trades = a .trades; intermediations = ap (entered id x) (a .intermediations); trade-count = a .trade-count;
-      intermediation-count = ap (λ n. n + 1) (a .intermediation-count) ∙ sym (length-entered id x (s .intermediations .rows)); pair-count = a .pair-count };
-    sided = f .sided; adds = f .adds }
+    agrees = record {
+      day = a .day;
+      trades = a .trades;
+      intermediations = ap (entered id x) (a .intermediations);
+      trade-count = a .trade-count;
+      intermediation-count = ap (λ n. n + 1) (a .intermediation-count) ∙ sym (length-entered id x (s .intermediations .rows));
+      pair-count = a .pair-count;
+    };
+    sided = f .sided;
+    adds = f .adds;
+  }
 
   pub remove-row : (k : ℕ) (x : Intermediation) → find id k (s .intermediations .rows) ≡ Some x
       → Fair (record { day = p .day; trades = p .trades; standing = removed id (x .id) (p .standing) }) o (with-intermediations (removed-in id k) s)
   remove-row k x e = let a = f .agrees in record {
-    agrees = record { day = a .day; trades = a .trades;
-      intermediations = ap (λ n. removed id n (s .intermediations .rows)) (sym (row-found id k (s .intermediations .rows) x e .1)) ∙ ap (removed id (x .id)) (a .intermediations); trade-count = a .trade-count;
-      intermediation-count = ap (λ n. n - 1) (a .intermediation-count) ∙ sym (length-removed id k (s .intermediations .rows) x e); pair-count = a .pair-count };
-    sided = f .sided; adds = f .adds }
+    agrees = record {
+      day = a .day;
+      trades = a .trades;
+      intermediations = ap (λ n. removed id n (s .intermediations .rows)) (sym (row-found id k (s .intermediations .rows) x e .1)) ∙ ap (removed id (x .id)) (a .intermediations);
+      trade-count = a .trade-count;
+      intermediation-count = ap (λ n. n - 1) (a .intermediation-count) ∙ sym (length-removed id k (s .intermediations .rows) x e);
+      pair-count = a .pair-count;
+    };
+    sided = f .sided;
+    adds = f .adds;
+  }
 
 -- ── Exclusion ──
 
@@ -148,12 +166,15 @@ cancelled-fair p o s f n = let a = f .agrees in record {
   agrees = record {
     day = a .day;
     trades = map-changed number plain-number as-plain plain-number-is cancelled (λ x. put Seller Empty (put Buyer Empty x)) (λ t. refl) n (s .trades .rows)
-      ∙ sym (changed-twice plain-number (put Seller Empty) (put Buyer Empty) (λ x. refl) n (map as-plain (s .trades .rows)))
-      ∙ ap (λ ts. changed plain-number n (put Seller Empty) (changed plain-number n (put Buyer Empty) ts)) (a .trades);
+        ∙ sym (changed-twice plain-number (put Seller Empty) (put Buyer Empty) (λ x. refl) n (map as-plain (s .trades .rows)))
+        ∙ ap (λ ts. changed plain-number n (put Seller Empty) (changed plain-number n (put Buyer Empty) ts)) (a .trades);
     intermediations = a .intermediations;
     trade-count = a .trade-count ∙ sym (length-changed number cancelled (λ x. refl) n (s .trades .rows));
-    intermediation-count = a .intermediation-count; pair-count = a .pair-count };
+    intermediation-count = a .intermediation-count;
+    pair-count = a .pair-count;
+  };
   sided = λ w m. subst (λ es. Sided (cond (eqb n m) None (o w m)) w es)
-    (sym (seen-put number cancelled (λ x. refl) no-trade (λ (t : Trade). held (allocation w t)) n (s .trades .rows) m [] (λ t e. cancelled-holds w t) (λ e. nothing-holds w)))
-    (sided-cond (eqb n m) None (o w m) w [] (held-in (s .trades .rows) w m) (λ e. (refl, tt)) (f .sided w m));
-  adds = λ w. each-changed number (Adds w) cancelled n (s .trades .rows) (λ t e k. cancelled-adds w t) (f .adds w) }
+      (sym (seen-put number cancelled (λ x. refl) no-trade (λ (t : Trade). held (allocation w t)) n (s .trades .rows) m [] (λ t e. cancelled-holds w t) (λ e. nothing-holds w)))
+      (sided-cond (eqb n m) None (o w m) w [] (held-in (s .trades .rows) w m) (λ e. (refl, tt)) (f .sided w m));
+  adds = λ w. each-changed number (Adds w) cancelled n (s .trades .rows) (λ t e k. cancelled-adds w t) (f .adds w);
+}

@@ -37,7 +37,7 @@ absent-holds ts Seller n e = ap (λ o. held (allocation Seller (or-else no-trade
 entered-holds : (ts : List Trade) (t : Terms) → find number (t .number) ts ≡ None → (w : Side) (n : ℕ) → held-in ts w n ≡ held-in (entered number (captured t) ts) w n
 entered-holds ts t e w n =
     ⊎-elim (λ (i : t .number ≡ n). absent-holds ts w n (subst (λ k. find number k ts ≡ None) i e) ∙ captured-holds w t
-      ∙ ap (λ o. held (allocation w (or-else no-trade o))) (sym (row-entered number (captured t) ts n e ∙ ap (λ b. cond b (Some (captured t)) (find number n ts)) (eq-eqb _ _ (sym i)))))
+    ∙ ap (λ o. held (allocation w (or-else no-trade o))) (sym (row-entered number (captured t) ts n e ∙ ap (λ b. cond b (Some (captured t)) (find number n ts)) (eq-eqb _ _ (sym i)))))
     (λ (i : t .number ≡ n → ⊥). ap (λ o. held (allocation w (or-else no-trade o))) (sym (row-entered number (captured t) ts n e ∙ ap (λ b. cond b (Some (captured t)) (find number n ts)) (ne-eqb _ _ (λ y. i (sym y))))))
     (cases-eq (t .number) n)
 
@@ -54,18 +54,22 @@ module _ (p : Plain) (o : Side → ℕ → Option Filling) (r : List Listed) (s 
           trades = map-entered number plain-number as-plain plain-number-is c (s .trades .rows) ∙ ap (entered plain-number (as-plain c)) (g .trades);
           intermediations = g .intermediations;
           trade-count = ap (λ n. n + 1) (g .trade-count) ∙ sym (length-entered number c (s .trades .rows));
-          intermediation-count = g .intermediation-count; pair-count = g .pair-count };
+          intermediation-count = g .intermediation-count;
+          pair-count = g .pair-count;
+        };
         sided = λ w n. subst (λ es. Sided (o w n) w es) (entered-holds (s .trades .rows) (q .terms) e w n) (f .sided w n);
-        adds = λ w. each-entered number (Adds w) c (s .trades .rows) (captured-adds w (q .terms)) (f .adds w) }
+        adds = λ w. each-entered number (Adds w) c (s .trades .rows) (captured-adds w (q .terms)) (f .adds w);
+      }
 
   pub remove-fair : (q : SideCall) (a : Answer) → Fair (fed p (Remove q) a) (next p o r (Remove q) a) (placed r s (Remove q))
   unfolding placed
   remove-fair q a = record {
     agrees = agrees-at (q .side) (q .trade) (λ t. emptied) Empty (λ t d. refl) p s (f .agrees);
     sided = λ w n. subst (λ es. Sided (next p o r (Remove q) a w n) w es)
-      (sym (held-put (q .side) (q .trade) (λ t. emptied) (s .trades .rows) [] (λ t e. refl) (λ e. refl) w n))
-      (sided-if (is-side (q .side) w && eqb (q .trade) n) empties r (p .day) (terms-in p n) (o w n) w [] (held-in (s .trades .rows) w n) (λ e. (refl, tt)) (f .sided w n));
-    adds = adds-at (q .side) (q .trade) (λ t. emptied) (s .trades .rows) (λ t e k z. absurd (true≢false z)) (f .adds) }
+        (sym (held-put (q .side) (q .trade) (λ t. emptied) (s .trades .rows) [] (λ t e. refl) (λ e. refl) w n))
+        (sided-if (is-side (q .side) w && eqb (q .trade) n) empties r (p .day) (terms-in p n) (o w n) w [] (held-in (s .trades .rows) w n) (λ e. (refl, tt)) (f .sided w n));
+    adds = adds-at (q .side) (q .trade) (λ t. emptied) (s .trades .rows) (λ t e k z. absurd (true≢false z)) (f .adds);
+  }
 
   -- a side that is not empty, confirmed
   pub confirm-held : (v : Side) (n : ℕ) (t : Trade) → find number n (s .trades .rows) ≡ Some t → is-empty (allocation v (trade s n) .state) ≡ false
@@ -79,10 +83,11 @@ module _ (p : Plain) (o : Side → ℕ → Option Filling) (r : List Listed) (s 
       record {
         agrees = agrees-at (q .side) (q .trade) (λ t. confirmed) Confirmed (λ t d. refl) p s (f .agrees);
         sided = λ w n. subst (λ es. Sided (o w n) w es)
-          (sym (held-kept (q .side) (q .trade) (λ t. confirmed) (s .trades .rows) (λ t e. confirm-held (q .side) (q .trade) t e h) w n)) (f .sided w n);
+            (sym (held-kept (q .side) (q .trade) (λ t. confirmed) (s .trades .rows) (λ t e. confirm-held (q .side) (q .trade) t e h) w n)) (f .sided w n);
         adds = adds-at (q .side) (q .trade) (λ t. confirmed) (s .trades .rows) (λ t e k z.
-          ap (λ es. total (map (λ (e : KeptEntry). e .entry) es)) (confirm-held (q .side) (q .trade) t e h)
-          ∙ k (ap (λ (x : Trade). is-empty (allocation (q .side) x .state)) (sym (found-is s (q .trade) t e)) ∙ h)) (f .adds) }
+            ap (λ es. total (map (λ (e : KeptEntry). e .entry) es)) (confirm-held (q .side) (q .trade) t e h)
+            ∙ k (ap (λ (x : Trade). is-empty (allocation (q .side) x .state)) (sym (found-is s (q .trade) t e)) ∙ h)) (f .adds);
+      }
 
   pub include-fair : (q : Inclusion) (a : Answer) → Includes r s q → Fair (fed p (Include q) a) (next p o r (Include q) a) (placed r s (Include q))
   unfolding placed
@@ -95,25 +100,27 @@ module _ (p : Plain) (o : Side → ℕ → Option Filling) (r : List Listed) (s 
       let sums = t .sums in
       let rule : Trade → Allocation → Allocation = λ t. included r q in
       let fills-it : Sided (touched (fills (entries-of q)) r (p .day) (terms-in p n) (o v n)) v es =
-        (entries-kept r (entries-of q), subst₂ (λ day m. Each (Entitled r day m v) es) (f .agrees .day) (sym (terms-known p s (f .agrees) n)) good) in
+      (entries-kept r (entries-of q), subst₂ (λ day m. Each (Entitled r day m v) es) (f .agrees .day) (sym (terms-known p s (f .agrees) n)) good) in
       record {
         agrees = agrees-at v n rule (filled-as (q .now)) (λ t d. filled-state (q .now) es 0 d) p s (f .agrees);
         sided = λ w m. subst (λ ds. Sided (next p o r (Include q) a w m) w ds)
-          (sym (held-put v n rule (s .trades .rows) es (λ t e. held-filled (q .now) es 0 (allocation v t)) (λ e. absurd (none-some _ (sym e ∙ here))) w m))
-          (sided-if (is-side v w && eqb n m) (fills (entries-of q)) r (p .day) (terms-in p m) (o w m) w es (held-in (s .trades .rows) w m)
+            (sym (held-put v n rule (s .trades .rows) es (λ t e. held-filled (q .now) es 0 (allocation v t)) (λ e. absurd (none-some _ (sym e ∙ here))) w m))
+            (sided-if (is-side v w && eqb n m) (fills (entries-of q)) r (p .day) (terms-in p m) (o w m) w es (held-in (s .trades .rows) w m)
             (λ e. let b = and-parts _ _ e in
-              subst₂ (λ w m. Sided (touched (fills (entries-of q)) r (p .day) (terms-in p m) (o w m)) w es) (same-side v w (b .0)) (eqb-true n m (b .1)) fills-it)
+            subst₂ (λ w m. Sided (touched (fills (entries-of q)) r (p .day) (terms-in p m) (o w m)) w es) (same-side v w (b .0)) (eqb-true n m (b .1)) fills-it)
             (f .sided w m));
         adds = adds-at v n rule (s .trades .rows) (λ t e k z.
-          ap (λ ds. total (map (λ (e : KeptEntry). e .entry) ds)) (held-filled (q .now) es 0 (allocation v t))
-          ∙ ap total (entries-kept r (entries-of q)) ∙ sums ∙ ap (λ (x : Trade). x .terms .quantity) (found-is s n t e)) (f .adds) }
+            ap (λ ds. total (map (λ (e : KeptEntry). e .entry) ds)) (held-filled (q .now) es 0 (allocation v t))
+            ∙ ap total (entries-kept r (entries-of q)) ∙ sums ∙ ap (λ (x : Trade). x .terms .quantity) (found-is s n t e)) (f .adds);
+      }
 
   pub close-fair : (q : Closing) (a : Answer) → Fair (fed p (Close q) a) (next p o r (Close q) a) (placed r s (Close q))
   unfolding placed
   close-fair q a = record {
     agrees = record { day = refl; trades = refl; intermediations = refl; trade-count = refl; intermediation-count = refl; pair-count = refl };
     sided = nothing;
-    adds = λ w. tt }
+    adds = λ w. tt;
+  }
     where
       nothing : (w : Side) (n : ℕ) → Sided None w (held-in [] w n)
       nothing Buyer n = (refl, tt)

@@ -46,9 +46,9 @@ all-or-not s [] = inl tt
 all-or-not s (n ∷ ns) =
     elim (cases-bool (both-confirmed (trade s n))) [
       | inl t ↦ elim (all-or-not s ns) [
-          | inl a ↦ inl (t, a)
-          | inr a ↦ inr (λ x. a (x .1))
-        ]
+        | inl a ↦ inl (t, a)
+        | inr a ↦ inr (λ x. a (x .1))
+      ]
       | inr t ↦ inr (λ x. true≢false (sym (x .0) ∙ t))
     ]
 
@@ -120,12 +120,16 @@ pairs-unchanged b h k s t c law counted same stays back =
     let all : Each (Of-full t) (t .pairs .rows) = subst (Each (Of-full t)) (sym same) (still-of s t stays (s .pairs .rows) (pairs-full b h s law)) in
     record {
       confirmed = λ first others chain conf.
-        let was = back first others (record { chain = chain; confirmed = conf }) in
-        subst (λ ps. Paired (begun-for b (trade t first .terms)) (entries-held (trade t first .seller)) (entries-held (trade t (final first others) .buyer)) (those (naming first (final first others)) ps))
-        (sym same) (still-paired b h s t law first others was (stays first others was .1));
+          let was = back first others (record { chain = chain; confirmed = conf }) in
+          subst (λ ps. Paired (begun-for b (trade t first .terms)) (entries-held (trade t first .seller)) (entries-held (trade t (final first others) .buyer)) (those (naming first (final first others)) ps))
+          (sym same) (still-paired b h s t law first others was (stays first others was .1));
       unconfirmed = λ first others chain not-all. unfull-none t c (t .pairs .rows) all first others chain not-all;
       of-chains = as-chains t (t .pairs .rows) all;
-      rows = counted .rows; answered = counted .answered; selic-numbers = counted .issued .selic-numbers; control-numbers = counted .issued .control-numbers }
+      rows = counted .rows;
+      answered = counted .answered;
+      selic-numbers = counted .issued .selic-numbers;
+      control-numbers = counted .issued .control-numbers;
+    }
 
 -- a chain that the event completed, and the pairs that it wrote for it
 pub record Fresh (b : Beginning) (s t : State) (new : List Pair) (first : ℕ) (others : List ℕ) : Type 0 where
@@ -167,7 +171,11 @@ pairs-written b h k s t new first others c law counted grown stays fresh back =
       confirmed = λ f os chain conf. confirmed f os (record { chain = chain; confirmed = conf }) (back f os (record { chain = chain; confirmed = conf }));
       unconfirmed = λ f os chain not-all. unfull-none t c (t .pairs .rows) all f os chain not-all;
       of-chains = as-chains t (t .pairs .rows) all;
-      rows = counted .rows; answered = counted .answered; selic-numbers = counted .issued .selic-numbers; control-numbers = counted .issued .control-numbers }
+      rows = counted .rows;
+      answered = counted .answered;
+      selic-numbers = counted .issued .selic-numbers;
+      control-numbers = counted .issued .control-numbers;
+    }
   where
     olds : Each (Of-full s) (s .pairs .rows)
     olds = pairs-full b h s law
@@ -191,7 +199,7 @@ pairs-written b h k s t new first others c law counted grown stays fresh back =
     confirmed f os full (inr e) =
         rw (e .0, e .1) (subst (λ ps. Paired (begun-for b (trade t first .terms)) (entries-held (trade t first .seller)) (entries-held (trade t (final first others) .buyer)) ps)
         (sym (ap (those (naming first (final first others))) grown
-          ∙ pairs-new first (final first others) (s .pairs .rows) new (none-before s t c stays first others (fresh .full) (fresh .before) (s .pairs .rows) olds) (fresh .all-name)))
+        ∙ pairs-new first (final first others) (s .pairs .rows) new (none-before s t c stays first others (fresh .full) (fresh .before) (s .pairs .rows) olds) (fresh .all-name)))
         (fresh .paired))
 
 -- all is cleared
@@ -200,4 +208,8 @@ pairs-cleared b k t none no-trades counted = record {
   confirmed = λ f os chain conf. absurd (false≢true (ap (λ ts. is-some (find number f ts)) (sym no-trades) ∙ chain .stands));
   unconfirmed = λ f os chain conf. ap (those (naming f (final f os))) none;
   of-chains = subst (Each (λ p. (others : List ℕ) × Chain t (p .first) others × (final (p .first) others ≡ p .last))) (sym none) tt;
-  rows = counted .rows; answered = counted .answered; selic-numbers = counted .issued .selic-numbers; control-numbers = counted .issued .control-numbers }
+  rows = counted .rows;
+  answered = counted .answered;
+  selic-numbers = counted .issued .selic-numbers;
+  control-numbers = counted .issued .control-numbers;
+}

@@ -167,15 +167,17 @@ entries-entitled r day caller w t place (e ∷ es) own h =
     let p = both-turns _ _ h in
     let a = passed _ _ _ (both-turns _ _ (p .0) .0) in
     let b = passed _ _ _ (a .1) in
-    let c = passed _ _ _ (b .1) in
-    (record {
-      account = shown r (e .account);
-      listed = some-of no-account (account-in r (e .account)) (a .0);
-      active-then = b .0;
-      suited = c .0;
-      tied = subst (λ x. tied-in r (e .account) x ≡ true) (calling-is caller w (t .terms) own) (passed _ _ _ (c .1) .0);
-      type-kept = refl },
-    entries-entitled r day caller w t (place + 1) es own (p .1))
+    let c = passed _ _ _ (b .1) in (
+      record {
+        account = shown r (e .account);
+        listed = some-of no-account (account-in r (e .account)) (a .0);
+        active-then = b .0;
+        suited = c .0;
+        tied = subst (λ x. tied-in r (e .account) x ≡ true) (calling-is caller w (t .terms) own) (passed _ _ _ (c .1) .0);
+        type-kept = refl;
+      },
+      entries-entitled r day caller w t (place + 1) es own (p .1),
+    )
 
 include-passed : (r : List Listed) (s : State) (q : Inclusion) → fields-verdict (Include q) ≡ None → own-verdict r s (Include q) ≡ None → Includes r s q
 unfolding fields-verdict inclusion-fields own-verdict inclusion-verdict
@@ -193,7 +195,8 @@ include-passed r s q f e =
       positive = entries-positive 8 (entries-of q) (fs .1);
       entitled = entries-entitled r (s .day) (q .participant) (q .side) (trade s (q .trade)) 1 (entries-of q) (side .owner) (b .0);
       sums = eqb-true _ _ (passed _ _ _ (c .0) .0);
-      enough = enough r s (Include q) (c .1) }
+      enough = enough r s (Include q) (c .1);
+    }
 
 pub record Confirms (r : List Listed) (s : State) (q : SideCall) : Type 0 where
   pub number-is : Not0 (q .trade)
@@ -210,7 +213,8 @@ confirm-passed r s q f e =
       number-is = number-good q f;
       free = on-side-passed s (q .minute) (q .participant) (q .trade) (q .side) (a .0);
       holds = filled-passed _ (b .0);
-      enough = enough r s (Confirm q) (both-turns _ _ (b .1) .1) }
+      enough = enough r s (Confirm q) (both-turns _ _ (b .1) .1);
+    }
 
 pub record Intermediates (r : List Listed) (s : State) (q : NewIntermediation) : Type 0 where
   pub id-is : Not0 (q .intermediation .id)
@@ -220,12 +224,12 @@ pub record Intermediates (r : List Listed) (s : State) (q : NewIntermediation) :
   pub alike-legs : both-legs (q .intermediation) ≡ true → alike (trade s (q .intermediation .bought) .terms) (trade s (q .intermediation .sold) .terms) ≡ true
   pub apart : both-legs (q .intermediation) ≡ true → any (λ n. eqb n (q .intermediation .sold)) (numbers-in (s .trades .rows) (s .intermediations .rows) (q .intermediation .bought)) ≡ false
   pub short : both-legs (q .intermediation) ≡ true
-    → length (numbers-in (s .trades .rows) (s .intermediations .rows) (q .intermediation .bought)) + length (numbers-in (s .trades .rows) (s .intermediations .rows) (q .intermediation .sold)) ≤ 3
+      → length (numbers-in (s .trades .rows) (s .intermediations .rows) (q .intermediation .bought)) + length (numbers-in (s .trades .rows) (s .intermediations .rows) (q .intermediation .sold)) ≤ 3
   pub listed : is-some (account-in r (q .intermediation .account)) ≡ true
   pub awake : active (s .day) (shown r (q .intermediation .account)) ≡ true
   pub suited : suits (trade s (any-leg (q .intermediation)) .terms .kind) (shown r (q .intermediation .account)) ≡ true
   pub tied : (w : Side) → has-leg w (q .intermediation) ≡ true
-    → tied-in r (q .intermediation .account) (calling (q .intermediation .participant) w (trade s (leg w (q .intermediation)) .terms)) ≡ true
+      → tied-in r (q .intermediation .account) (calling (q .intermediation .participant) w (trade s (leg w (q .intermediation)) .terms)) ≡ true
   pub enough : Enough r s (Intermediate q)
 
 leg-free : (s : State) (minute : ℕ) (x : Intermediation) → legs-verdict (s .day) minute (s .trades .rows) (s .intermediations .rows) x ≡ None
@@ -277,7 +281,8 @@ intermediate-passed r s q f e =
       awake = j .0;
       suited = and-parts _ _ (passed _ _ _ (j .1) .0) .0;
       tied = leg-tied r (s .trades .rows) x (g .0);
-      enough = enough r s (Intermediate q) (both-turns _ _ (g .1) .1) }
+      enough = enough r s (Intermediate q) (both-turns _ _ (g .1) .1);
+    }
 
 pub record Confirms-both (r : List Listed) (s : State) (q : IntermediationCall) : Type 0 where
   pub here : is-some (find id (q .id) (s .intermediations .rows)) ≡ true
@@ -293,9 +298,10 @@ sides-passed : (ts : List Trade) (x : Intermediation) → sides-verdict ts x ≡
     → (is-confirmed (leg-state ts x w) ≡ false) × (is-empty (leg-state ts x w) ≡ false)
 unfolding sides-verdict
 sides-passed ts x e w h =
-    let a = passed _ _ _ e in
-    (not-true _ (each-leg-of (λ v. not (is-confirmed (leg-state ts x v))) x (a .0) w h),
-      not-true _ (each-leg-of (λ v. not (is-empty (leg-state ts x v))) x (passed _ _ _ (a .1) .0) w h))
+    let a = passed _ _ _ e in (
+      not-true _ (each-leg-of (λ v. not (is-confirmed (leg-state ts x v))) x (a .0) w h),
+      not-true _ (each-leg-of (λ v. not (is-empty (leg-state ts x v))) x (passed _ _ _ (a .1) .0) w h),
+    )
 
 confirm-both-passed : (r : List Listed) (s : State) (q : IntermediationCall) → own-verdict r s (ConfirmIntermediation q) ≡ None → Confirms-both r s q
 unfolding own-verdict
@@ -307,7 +313,8 @@ confirm-both-passed r s q e =
       here = intermediation-here (s .day) (q .minute) (q .participant) (s .trades .rows) (s .intermediations .rows) (q .id) (a .0);
       unsure = λ w h. sides w h .0;
       holds = λ w h. sides w h .1;
-      enough = enough r s (ConfirmIntermediation q) (b .1) }
+      enough = enough r s (ConfirmIntermediation q) (b .1);
+    }
 
 pub record Excludes (s : State) (q : IntermediationCall) : Type 0 where
   pub here : is-some (find id (q .id) (s .intermediations .rows)) ≡ true
@@ -319,7 +326,8 @@ exclude-passed r s q e =
     let a = both-turns _ _ e in
     record {
       here = intermediation-here (s .day) (q .minute) (q .participant) (s .trades .rows) (s .intermediations .rows) (q .id) (a .0);
-      unnumbered = not-true _ (passed _ _ _ (a .1) .0) }
+      unnumbered = not-true _ (passed _ _ _ (a .1) .0);
+    }
 
 abbrev pub Own : List Listed → State → Request → Type 0
 Own r s (Capture q) = Captures s q

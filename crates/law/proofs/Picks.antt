@@ -62,16 +62,16 @@ picked-gone k b c (x ∷ xs) r p =
     let h : rises-above id (x .id) xs ≡ true = and-parts (ltb k (x .id)) (rises-above id (x .id) xs) r .1 in
     let past : find id (x .id) xs ≡ None = below-absent id (x .id) (x .id) xs h (omega arith) in
     ⊎-elim (λ (e : x .id ≡ b).
-      let z : find id b xs ≡ None = subst (λ n. find id n xs ≡ None) e past in
-      rw (eq-eqb _ _ e) (picked-gone (x .id) b c xs h (gone x p)
-        ∙ ap₂ (λ ys o. gone-if (find id c ys) (gone-if o (gone x p))) (removed-absent id b xs z) z))
+    let z : find id b xs ≡ None = subst (λ n. find id n xs ≡ None) e past in
+    rw (eq-eqb _ _ e) (picked-gone (x .id) b c xs h (gone x p)
+    ∙ ap₂ (λ ys o. gone-if (find id c ys) (gone-if o (gone x p))) (removed-absent id b xs z) z))
     (λ (e : x .id ≡ b → ⊥). ⊎-elim (λ (i : x .id ≡ c).
-      let z : find id c xs ≡ None = subst (λ n. find id n xs ≡ None) i past in
-      rw (ne-eqb _ _ e) (rw (eq-eqb _ _ i) (picked-gone (x .id) b c xs h (gone x p)
-        ∙ ap (λ o. gone-if o (gone-if (find id b xs) (gone x p))) (removed-none id b c xs z)
-        ∙ gone-if-swap x (find id b xs) p)))
-      (λ (i : x .id ≡ c → ⊥). rw (ne-eqb _ _ e) (rw (ne-eqb _ _ i) (picked-gone (x .id) b c xs h p)))
-      (cases-eq (x .id) c))
+    let z : find id c xs ≡ None = subst (λ n. find id n xs ≡ None) i past in
+    rw (ne-eqb _ _ e) (rw (eq-eqb _ _ i) (picked-gone (x .id) b c xs h (gone x p)
+    ∙ ap (λ o. gone-if o (gone-if (find id b xs) (gone x p))) (removed-none id b c xs z)
+    ∙ gone-if-swap x (find id b xs) p)))
+    (λ (i : x .id ≡ c → ⊥). rw (ne-eqb _ _ e) (rw (ne-eqb _ _ i) (picked-gone (x .id) b c xs h p)))
+    (cases-eq (x .id) c))
     (cases-eq (x .id) b)
 
 abbrev pub passes-if : (Intermediation → Bool) → Option Intermediation → Bool
@@ -96,16 +96,16 @@ picked-any k b c (x ∷ xs) r H =
     let past : find id (x .id) xs ≡ None = below-absent id (x .id) (x .id) xs h (omega arith) in
     let ih = picked-any (x .id) b c xs h H in
     ⊎-elim (λ (e : x .id ≡ b).
-      let z : find id b xs ≡ None = subst (λ n. find id n xs ≡ None) e past in
-      rw (eq-eqb _ _ e) (ap (λ y. H x || y) (ih
-        ∙ ap₂ (λ ys o. passes-if H (find id c ys) || passes-if H o) (removed-absent id b xs z) z ∙ sym (or-false _))
-        ∙ or-swap (H x) (passes-if H (find id c xs))))
+    let z : find id b xs ≡ None = subst (λ n. find id n xs ≡ None) e past in
+    rw (eq-eqb _ _ e) (ap (λ y. H x || y) (ih
+    ∙ ap₂ (λ ys o. passes-if H (find id c ys) || passes-if H o) (removed-absent id b xs z) z ∙ sym (or-false _))
+    ∙ or-swap (H x) (passes-if H (find id c xs))))
     (λ (e : x .id ≡ b → ⊥). ⊎-elim (λ (i : x .id ≡ c).
-      let z : find id c xs ≡ None = subst (λ n. find id n xs ≡ None) i past in
-      rw (ne-eqb _ _ e) (rw (eq-eqb _ _ i) (ap (λ y. H x || y) (ih
-        ∙ ap (λ o. passes-if H o || passes-if H (find id b xs)) (removed-none id b c xs z)))))
-      (λ (i : x .id ≡ c → ⊥). rw (ne-eqb _ _ e) (rw (ne-eqb _ _ i) ih))
-      (cases-eq (x .id) c))
+    let z : find id c xs ≡ None = subst (λ n. find id n xs ≡ None) i past in
+    rw (ne-eqb _ _ e) (rw (eq-eqb _ _ i) (ap (λ y. H x || y) (ih
+    ∙ ap (λ o. passes-if H o || passes-if H (find id b xs)) (removed-none id b c xs z)))))
+    (λ (i : x .id ≡ c → ⊥). rw (ne-eqb _ _ e) (rw (ne-eqb _ _ i) ih))
+    (cases-eq (x .id) c))
     (cases-eq (x .id) b)
 
 -- ── One id ──
@@ -117,7 +117,7 @@ one-gone k b (x ∷ xs) r p =
     let h : rises-above id (x .id) xs ≡ true = and-parts (ltb k (x .id)) (rises-above id (x .id) xs) r .1 in
     let past : find id (x .id) xs ≡ None = below-absent id (x .id) (x .id) xs h (omega arith) in
     ⊎-elim (λ (e : x .id ≡ b).
-      rw (eq-eqb _ _ e) (one-gone (x .id) b xs h (gone x p) ∙ ap (λ o. gone-if o (gone x p)) (subst (λ n. find id n xs ≡ None) e past)))
+    rw (eq-eqb _ _ e) (one-gone (x .id) b xs h (gone x p) ∙ ap (λ o. gone-if o (gone x p)) (subst (λ n. find id n xs ≡ None) e past)))
     (λ (e : x .id ≡ b → ⊥). rw (ne-eqb _ _ e) (one-gone (x .id) b xs h p))
     (cases-eq (x .id) b)
 
@@ -128,7 +128,7 @@ one-any k b (x ∷ xs) r H =
     let h : rises-above id (x .id) xs ≡ true = and-parts (ltb k (x .id)) (rises-above id (x .id) xs) r .1 in
     let past : find id (x .id) xs ≡ None = below-absent id (x .id) (x .id) xs h (omega arith) in
     ⊎-elim (λ (e : x .id ≡ b).
-      rw (eq-eqb _ _ e) (ap (λ y. H x || y) (one-any (x .id) b xs h H ∙ ap (passes-if H) (subst (λ n. find id n xs ≡ None) e past)) ∙ sym (or-false (H x))))
+    rw (eq-eqb _ _ e) (ap (λ y. H x || y) (one-any (x .id) b xs h H ∙ ap (passes-if H) (subst (λ n. find id n xs ≡ None) e past)) ∙ sym (or-false (H x))))
     (λ (e : x .id ≡ b → ⊥). rw (ne-eqb _ _ e) (one-any (x .id) b xs h H))
     (cases-eq (x .id) b)
 
@@ -142,9 +142,9 @@ module _ (s : State) (c : Chains s) (ids : rises-above id 0 (s .intermediations 
   named-by : (w : Side) (x : Intermediation) → In x (s .intermediations .rows) → eqb (leg w x) n ≡ eqb (x .id) (allocation w (trade s n) .tie)
   named-by w x i = eqb-same (leg w x) n (x .id) (allocation w (trade s n) .tie)
       (λ e.
-        let l = each-in _ x (s .intermediations .rows) (c .legs w) i in
-        let q : 0 < leg w x = subst (λ k. 0 < k) (sym e) pos in
-        sym (ap (λ k. allocation w (trade s k) .tie) (sym e) ∙ l q .1))
+      let l = each-in _ x (s .intermediations .rows) (c .legs w) i in
+      let q : 0 < leg w x = subst (λ k. 0 < k) (sym e) pos in
+      sym (ap (λ k. allocation w (trade s k) .tie) (sym e) ∙ l q .1))
       (λ e. back e (each-row number _ n (s .trades .rows) t (c .ties w) here))
     where
       same : allocation w t .tie ≡ allocation w (trade s n) .tie
@@ -154,11 +154,11 @@ module _ (s : State) (c : Chains s) (ids : rises-above id 0 (s .intermediations 
       back e u = ⊎-elim (λ (z : allocation w t .tie ≡ 0).
           let y : x .id ≡ 0 = e ∙ sym same ∙ z in
           absurd (none-some x (sym (below-absent id 0 (x .id) (s .intermediations .rows) ids (omega arith)) ∙ row-in id 0 (s .intermediations .rows) x ids i)))
-        (λ (h : Holder (s .intermediations .rows) w (allocation w t .tie) (number t)).
+          (λ (h : Holder (s .intermediations .rows) w (allocation w t .tie) (number t)).
           let y : h .by .id ≡ x .id = h .has-id ∙ same ∙ sym e in
           let z : h .by ≡ x = some-same _ _ (sym (row-in id 0 (s .intermediations .rows) (h .by) ids (h .stands)) ∙ ap (λ k. find id k (s .intermediations .rows)) y ∙ row-in id 0 (s .intermediations .rows) x ids i) in
           ap (leg w) (sym z) ∙ h .holds ∙ row-found number n (s .trades .rows) t here .1)
-        u
+          u
 
   pub names-picks : (x : Intermediation) → In x (s .intermediations .rows) → names n x ≡ picks (trade s n .buyer .tie) (trade s n .seller .tie) x
   names-picks x i = ap₂ _||_ (named-by Buyer x i) (named-by Seller x i)

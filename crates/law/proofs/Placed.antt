@@ -45,24 +45,28 @@ excluded-leaves s g i nb ns = go (find id i (s .intermediations .rows)) refl
           frozen = record {
             parts = λ m h. same-then _ _ _ (changed-froze (view s .num) (intermediation s i .sold) (at-side Seller emptied) us (λ _. refl) ns m h)
                 (changed-froze (view s .num) (intermediation s i .bought) (at-side Buyer emptied) (s .trades .rows) (λ _. refl) nb m h);
-            intermediations = removed-froze s g i i-is nb ns };
+            intermediations = removed-froze s g i i-is nb ns;
+          };
           fewer = λ m h. changed-fewer (intermediation s i .bought) (at-side Buyer emptied) (s .trades .rows) (λ _. refl) (λ _ k. k) m
-              (changed-fewer (intermediation s i .sold) (at-side Seller emptied) us (λ _. refl) (λ _ k. k) m h) })
+              (changed-fewer (intermediation s i .sold) (at-side Seller emptied) us (λ _. refl) (λ _ k. k) m h);
+        })
 
 module _ (s : State) (g : Sound s) where
   side-leaves : (w : Side) (n : ℕ) (d : Allocation → Allocation) → view s .num n ≡ false → Leaves s (at-trade n (at-side w d) s)
   side-leaves w n d nn = record {
     frozen = record { parts = changed-froze (view s .num) n (at-side w d) (s .trades .rows) (side-number w d) nn; intermediations = λ v m h. refl };
-    fewer = changed-fewer n (at-side w d) (s .trades .rows) (side-number w d) (λ t h. ap is-numbered (sym (side-state w d t)) ∙ h) }
+    fewer = changed-fewer n (at-side w d) (s .trades .rows) (side-number w d) (λ t h. ap is-numbered (sym (side-state w d t)) ∙ h);
+  }
 
   open-side : (n : ℕ) (w : Side) → is-confirmed (allocation w (trade s n) .state) ≡ false → view s .num n ≡ false
   open-side n Buyer u = num-buyer (view s) (g .seen) n (λ _. u)
   open-side n Seller u = num-seller (view s) (g .seen) n (λ _. u)
 
   intermediate-open : (r : List Listed) (q : NewIntermediation) → Intermediates r s q → (view s .num (q .intermediation .bought) ≡ false) × (view s .num (q .intermediation .sold) ≡ false)
-  intermediate-open r q p =
-      (num-buyer (view s) (g .seen) (q .intermediation .bought) (λ z. p .free Buyer (leg-is-there Buyer (q .intermediation) z) .unsure),
-        num-seller (view s) (g .seen) (q .intermediation .sold) (λ z. p .free Seller (leg-is-there Seller (q .intermediation) z) .unsure))
+  intermediate-open r q p = (
+    num-buyer (view s) (g .seen) (q .intermediation .bought) (λ z. p .free Buyer (leg-is-there Buyer (q .intermediation) z) .unsure),
+    num-seller (view s) (g .seen) (q .intermediation .sold) (λ z. p .free Seller (leg-is-there Seller (q .intermediation) z) .unsure),
+  )
 
   confirm-both-open : (r : List Listed) (q : IntermediationCall) → Confirms-both r s q → (view s .num (intermediation s (q .id) .bought) ≡ false) × (view s .num (intermediation s (q .id) .sold) ≡ false)
   confirm-both-open r q p =
@@ -92,7 +96,8 @@ module _ (s : State) (g : Sound s) where
       let n2 : view t2 .num n ≡ false = ap (λ (u : View). u .num n) (w .0) ∙ w .2 in
       leaves-then s t2 _ (leaves-then s t1 t2 l1 l2) (record {
         frozen = record { parts = changed-froze (view t2 .num) n cancelled (t2 .trades .rows) (λ _. refl) n2; intermediations = λ x m k. refl };
-        fewer = changed-fewer n cancelled (t2 .trades .rows) (λ _. refl) (λ _ k. absurd (false≢true k)) })
+        fewer = changed-fewer n cancelled (t2 .trades .rows) (λ _. refl) (λ _ k. absurd (false≢true k));
+      })
 
   pub placed-leaves : (r : List Listed) (q : Request) → closes q ≡ false → Passed r s q → Leaves s (placed r s q)
   unfolding placed
@@ -103,20 +108,24 @@ module _ (s : State) (g : Sound s) where
         frozen = record {
           parts = λ m h. same-path _ _ (ap (or-else no-trade) (row-entered number t (s .trades .rows) m none
               ∙ ap (λ b. cond b (Some t) (find number m (s .trades .rows))) (ne-eqb m (number t) (λ e. both-ways _ (p .own .absent) (ap (λ k. is-some (find number k (s .trades .rows))) (sym e) ∙ num-there s g m h)))));
-          intermediations = λ w m h. refl };
+          intermediations = λ w m h. refl;
+        };
         fewer = λ m h.
             let k : is-numbered (or-else no-trade (cond (eqb m (number t)) (Some t) (find number m (s .trades .rows))) .state) ≡ true =
             ap (λ o. is-numbered (or-else no-trade o .state)) (sym (row-entered number t (s .trades .rows) m none)) ∙ h in
             ⊎-elim (λ (e : m ≡ number t). absurd (false≢true (subst (λ b. is-numbered (or-else no-trade (cond b (Some t) (find number m (s .trades .rows))) .state) ≡ true) (eq-eqb _ _ e) k)))
             (λ (e : m ≡ number t → ⊥). subst (λ b. is-numbered (or-else no-trade (cond b (Some t) (find number m (s .trades .rows))) .state) ≡ true) (ne-eqb _ _ e) k)
-            (cases-eq m (number t)) }
+            (cases-eq m (number t));
+      }
   placed-leaves r (Cancel q) c p =
       cond-both (both-confirmed (trade s (q .trade))) (at-trade (q .trade) marked s) (called-off (q .trade) (trade s (q .trade)) s) (Leaves s)
       (λ _. record {
         frozen = record {
           parts = λ m h. changed-alike (q .trade) marked (s .trades .rows) (λ t. record { terms = refl; numbered = λ k. k; buyer = refl; seller = refl }) m;
-          intermediations = λ w m h. refl };
-        fewer = changed-fewer (q .trade) marked (s .trades .rows) (λ _. refl) (λ _ k. k) })
+          intermediations = λ w m h. refl;
+        };
+        fewer = changed-fewer (q .trade) marked (s .trades .rows) (λ _. refl) (λ _ k. k);
+      })
       (void-leaves (q .trade))
   placed-leaves r (Include q) c p =
       side-leaves s g (q .side) (q .trade) (included r q) (open-side s g (q .trade) (q .side) (p .own .free .unsure))
@@ -134,8 +143,10 @@ module _ (s : State) (g : Sound s) where
         frozen = record {
           parts = λ m h. same-then _ _ _ (changed-froze (view s .num) (x .sold) fs us (λ _. refl) (o .1) m h)
               (changed-froze (view s .num) (x .bought) fb (s .trades .rows) (λ _. refl) (o .0) m h);
-          intermediations = entered-froze s g x (p .own .id-is) (none-by _ (p .own .absent)) };
-        fewer = λ m h. changed-fewer (x .bought) fb (s .trades .rows) (λ _. refl) (λ _ k. k) m (changed-fewer (x .sold) fs us (λ _. refl) (λ _ k. k) m h) }
+          intermediations = entered-froze s g x (p .own .id-is) (none-by _ (p .own .absent));
+        };
+        fewer = λ m h. changed-fewer (x .bought) fb (s .trades .rows) (λ _. refl) (λ _ k. k) m (changed-fewer (x .sold) fs us (λ _. refl) (λ _ k. k) m h);
+      }
   placed-leaves r (ConfirmIntermediation q) c p =
       let o = confirm-both-open s g r q (p .own) in
       let x = intermediation s (q .id) in
@@ -144,9 +155,11 @@ module _ (s : State) (g : Sound s) where
         frozen = record {
           parts = λ m h. same-then _ _ _ (changed-froze (view s .num) (x .sold) (at-side Seller confirmed) us (λ _. refl) (o .1) m h)
               (changed-froze (view s .num) (x .bought) (at-side Buyer confirmed) (s .trades .rows) (λ _. refl) (o .0) m h);
-          intermediations = λ w m h. refl };
+          intermediations = λ w m h. refl;
+        };
         fewer = λ m h. changed-fewer (x .bought) (at-side Buyer confirmed) (s .trades .rows) (λ _. refl) (λ _ k. k) m
-            (changed-fewer (x .sold) (at-side Seller confirmed) us (λ _. refl) (λ _ k. k) m h) }
+            (changed-fewer (x .sold) (at-side Seller confirmed) us (λ _. refl) (λ _ k. k) m h);
+      }
   placed-leaves r (ExcludeIntermediation q) c p = let o = exclude-open s g q (p .tables) (p .own) in excluded-leaves s g (q .id) (o .0) (o .1)
   placed-leaves r (Close q) c p = absurd (false≢true (sym c))
 

@@ -26,9 +26,10 @@ pub record Sound-trade (t : Trade) : Type 0 where
 good-positive : (es : List KeptEntry) → all (λ e. good-entry (e .entry)) es ≡ true → Positive (map (λ e. e .entry) es)
 good-positive [] h = tt
 good-positive (e ∷ es) h =
-    let both = and-parts (good-entry (e .entry)) (all (λ x. good-entry (x .entry)) es) h in
-    (at-least quantities (e .entry .quantity) (and-parts _ _ (and-parts _ _ (both .0) .0) .1),
-      good-positive es (both .1))
+    let both = and-parts (good-entry (e .entry)) (all (λ x. good-entry (x .entry)) es) h in (
+      at-least quantities (e .entry .quantity) (and-parts _ _ (and-parts _ _ (both .0) .0) .1),
+      good-positive es (both .1),
+    )
 
 held-empty : (d : Allocation) → is-empty (d .state) ≡ true → held d ≡ []
 held-empty d h = ap (λ z. cond z [] (take (d .count) (d .entries))) h
@@ -48,8 +49,11 @@ good-sound t h =
     let d = and-parts _ _ (and-parts _ _ f .0) .0 in
     let c = and-parts _ _ (and-parts _ _ d .0) in
     record {
-      numbered = at-least numbers (number t) (and-parts _ _ (c .0) .0); quantity = at-least quantities (t .terms .quantity) (c .1);
-      buyer = side-positive (t .buyer) (one .1); seller = side-positive (t .seller) (two .1) }
+      numbered = at-least numbers (number t) (and-parts _ _ (c .0) .0);
+      quantity = at-least quantities (t .terms .quantity) (c .1);
+      buyer = side-positive (t .buyer) (one .1);
+      seller = side-positive (t .seller) (two .1);
+    }
 
 all-each : (ts : List Trade) → all good-trade ts ≡ true → Each Sound-trade ts
 all-each [] h = tt
@@ -97,7 +101,7 @@ placed-sound r s (Remove q) m e c = let z : _≡_ {A = ℕ} 0 1 = cc in absurd (
 placed-sound r s (Confirm q) m e c =
     each-changed Sound-trade (at-side (q .side) confirmed) (q .trade) (s .trades .rows)
     (λ t found h. sound-side (q .side) confirmed t
-      (confirmed-positive (allocation (q .side) t) (subst (λ u. is-empty (allocation (q .side) u .state) ≡ false) (ap (or-else no-trade) found) (e .own .holds))) h)
+    (confirmed-positive (allocation (q .side) t) (subst (λ u. is-empty (allocation (q .side) u .state) ≡ false) (ap (or-else no-trade) found) (e .own .holds))) h)
     (whole-sound s (e .tables))
 placed-sound r s (Intermediate q) m e c =
     joined Seller (filled-leg r (q .intermediation) (q .now) Buyer s .trades .rows) (joined Buyer (s .trades .rows) (whole-sound s (e .tables)))
@@ -107,20 +111,20 @@ placed-sound r s (Intermediate q) m e c =
     joined w ts h =
         each-changed Sound-trade (λ t. at-side w (λ d. confirmed-if (q .now) (filled (kept-entry r (whole-entry (q .intermediation .account) t) ∷ []) (q .intermediation .id) d)) t) (leg w (q .intermediation)) ts
         (λ t _ k. sound-side w (λ d. confirmed-if (q .now) (filled (kept-entry r (whole-entry (q .intermediation .account) t) ∷ []) (q .intermediation .id) d)) t
-          (λ _. filled-positive (q .now) (kept-entry r (whole-entry (q .intermediation .account) t) ∷ []) (q .intermediation .id) (allocation w t) (k .quantity, tt)) k) h
+        (λ _. filled-positive (q .now) (kept-entry r (whole-entry (q .intermediation .account) t) ∷ []) (q .intermediation .id) (allocation w t) (k .quantity, tt)) k) h
 placed-sound r s (ConfirmIntermediation q) m e c =
     each-changed Sound-trade (at-side Seller confirmed) (intermediation s (q .id) .sold) once
     (λ t found h.
-      let key : number t ≡ intermediation s (q .id) .sold = row-found number (intermediation s (q .id) .sold) once t found .1 in
-      let full = e .own .holds Seller (leg-is-there Seller (intermediation s (q .id)) (λ z. absurd (omega (arith, h .numbered, key, z)))) in
-      let same = part-changed (λ u. is-empty (u .seller .state)) (at-side Buyer confirmed) (λ u. refl) (λ u. refl) (intermediation s (q .id) .bought) (intermediation s (q .id) .sold) (s .trades .rows) in
-      sound-side Seller confirmed t (confirmed-positive (t .seller) (sym (ap (λ o. is-empty (or-else no-trade o .seller .state)) found) ∙ same ∙ full)) h)
+    let key : number t ≡ intermediation s (q .id) .sold = row-found number (intermediation s (q .id) .sold) once t found .1 in
+    let full = e .own .holds Seller (leg-is-there Seller (intermediation s (q .id)) (λ z. absurd (omega (arith, h .numbered, key, z)))) in
+    let same = part-changed (λ u. is-empty (u .seller .state)) (at-side Buyer confirmed) (λ u. refl) (λ u. refl) (intermediation s (q .id) .bought) (intermediation s (q .id) .sold) (s .trades .rows) in
+    sound-side Seller confirmed t (confirmed-positive (t .seller) (sym (ap (λ o. is-empty (or-else no-trade o .seller .state)) found) ∙ same ∙ full)) h)
     (each-changed Sound-trade (at-side Buyer confirmed) (intermediation s (q .id) .bought) (s .trades .rows)
-      (λ t found h.
-        let key : number t ≡ intermediation s (q .id) .bought = row-found number (intermediation s (q .id) .bought) (s .trades .rows) t found .1 in
-        let full = e .own .holds Buyer (leg-is-there Buyer (intermediation s (q .id)) (λ z. absurd (omega (arith, h .numbered, key, z)))) in
-        sound-side Buyer confirmed t (confirmed-positive (t .buyer) (sym (ap (λ o. is-empty (or-else no-trade o .buyer .state)) found) ∙ full)) h)
-      (whole-sound s (e .tables)))
+    (λ t found h.
+    let key : number t ≡ intermediation s (q .id) .bought = row-found number (intermediation s (q .id) .bought) (s .trades .rows) t found .1 in
+    let full = e .own .holds Buyer (leg-is-there Buyer (intermediation s (q .id)) (λ z. absurd (omega (arith, h .numbered, key, z)))) in
+    sound-side Buyer confirmed t (confirmed-positive (t .buyer) (sym (ap (λ o. is-empty (or-else no-trade o .buyer .state)) found) ∙ full)) h)
+    (whole-sound s (e .tables)))
   where
     once : List Trade
     once = changed number (intermediation s (q .id) .bought) (at-side Buyer confirmed) (s .trades .rows)

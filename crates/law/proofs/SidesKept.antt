@@ -56,7 +56,7 @@ accepted day h r s q ps c k t =
     let f = effect-fair (plain day h) (λ w n. last-filling day w n h) r s (fair-from day h s (k .agrees) (k .sides)) c q t in
     let e : Event = record { asked = q; register = r; answered = Ok (reply r s q); wrote = ps } in
     let g = fair-o (fed (plain day h) q (reply r s q)) (next (plain day h) (λ w n. last-filling day w n h) r q (reply r s q)) (λ w n. last-filling day w n (e ∷ h)) (effect r s q)
-      (λ w n. sym (last-is day w n q r (reply r s q) ps h)) f in
+    (λ w n. sym (last-is day w n q r (reply r s q) ps h)) f in
     record { agrees = f .agrees; sides = fair-sides day (e ∷ h) (effect r s q) (fed (plain day h) q (reply r s q)) g }
 
 pub refused : (day : ℕ) (h : History) (r : List Listed) (s : State) (q : Request) (x : Refusal) (ps : List Pair) → Kept day h s

@@ -28,7 +28,8 @@ follows-self s = record { frozen = record { parts = λ m h. same-self (trade s m
 follows-then : (s t u : State) → Sound s → Sound t → Follows s t → Follows t u → Follows s u
 follows-then s t u g k a b = record {
   frozen = frozen-then s t u (a .frozen) (b .frozen);
-  olds = λ f os full. b .olds f os (stays s t g k (a .frozen) f os full .0) ∙ a .olds f os full }
+  olds = λ f os full. b .olds f os (stays s t g k (a .frozen) f os full .0) ∙ a .olds f os full;
+}
 
 step-follows : (b : Beginning) (h : History) (s : State) (c : Call) → Held b h s → (Closes s c → ⊥) → Follows s (step (c .register) s (c .asked) .after)
 unfolding step
@@ -57,9 +58,10 @@ chain-stays s t g k f first others full =
     record {
       chain = stays s t g k (f .frozen) first others full .0 .chain;
       trades = each-map (λ m. view s .num m ≡ true) (λ m. As-it-was (trade s m) (trade t m))
-        (λ m h. let p = f .frozen .parts m h in record { terms = p .terms; buyer = p .buyer; seller = p .seller; numbered = p .numbered h }) (first ∷ others) all;
+          (λ m h. let p = f .frozen .parts m h in record { terms = p .terms; buyer = p .buyer; seller = p .seller; numbered = p .numbered h }) (first ∷ others) all;
       ties = each-map (λ m. view s .num m ≡ true) (Held-as-before s t) (λ m h w. f .frozen .intermediations w m h) (first ∷ others) all;
-      pairs = f .olds first others full }
+      pairs = f .olds first others full;
+    }
 
 pub numbered-chain-stays : Numbered-chain-stays
 numbered-chain-stays b cs ds on first others chain sure =

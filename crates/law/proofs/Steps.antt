@@ -166,7 +166,8 @@ module _ (b : Beginning) (h : History) (s : State) (g : Sound s) (law : Pairs b 
             full = new-full;
             before = not-before;
             all-name = subst (λ l. All-name (number x) l new) (sym (final-last x us)) (all-name (number x) (number (last-of (conf-line p n conf))) (chain-matches (conf-line p n conf)) (issuer (conf-line p n conf) p));
-            paired = paired-after b h k s p x us (counted-of b h s law .issued) same found numbers sound sides (chains t gt) new-full })
+            paired = paired-after b h k s p x us (counted-of b h s law .issued) same found numbers sound sides (chains t gt) new-full;
+          })
           back
 
       pub old-pairs : Old-pairs s t

@@ -48,10 +48,13 @@ marked-fair p o s f n = let a = f .agrees in record {
     trades = map-changed number plain-number as-plain plain-number-is marked (λ x. x) (λ t. refl) n (s .trades .rows) ∙ changed-same plain-number n (map as-plain (s .trades .rows)) ∙ a .trades;
     intermediations = a .intermediations;
     trade-count = a .trade-count ∙ sym (length-changed number marked (λ x. refl) n (s .trades .rows));
-    intermediation-count = a .intermediation-count; pair-count = a .pair-count };
+    intermediation-count = a .intermediation-count;
+    pair-count = a .pair-count;
+  };
   sided = λ w m. subst (λ es. Sided (o w m) w es)
-    (sym (seen-kept number marked (λ x. refl) no-trade (λ (t : Trade). held (allocation w t)) n (s .trades .rows) m (λ t e. marked-holds w t))) (f .sided w m);
-  adds = λ w. each-changed number (Adds w) marked n (s .trades .rows) (λ t e k. marked-adds w t k) (f .adds w) }
+      (sym (seen-kept number marked (λ x. refl) no-trade (λ (t : Trade). held (allocation w t)) n (s .trades .rows) m (λ t e. marked-holds w t))) (f .sided w m);
+  adds = λ w. each-changed number (Adds w) marked n (s .trades .rows) (λ t e k. marked-adds w t k) (f .adds w);
+}
 
 cleared-twice : (a b c : Bool) (o : Option Filling) → cond a None (cond b None (cond c None o)) ≡ cond (a || (b || c)) None o
 cleared-twice true b c o = refl
@@ -68,9 +71,9 @@ module _ (p : Plain) (o : Side → ℕ → Option Filling) (r : List Listed) (s 
       let full = t .holds in
       let f1 = confirm-leg p o s f zero Buyer (x .bought) (full Buyer) in
       let f2 = confirm-leg _ _ _ f1 (none-left Buyer (x .bought) (λ t. confirmed) (s .trades .rows) 0 zero) Seller (x .sold)
-        (λ e. ap (λ (d : Allocation). is-empty (d .state))
-          (seen-kept number (by Buyer (λ t. confirmed)) (by-number Buyer (λ t. confirmed)) no-trade (λ (t : Trade). allocation Seller t) (x .bought) (s .trades .rows) (x .sold) (λ t i. refl))
-          ∙ full Seller e) in
+      (λ e. ap (λ (d : Allocation). is-empty (d .state))
+      (seen-kept number (by Buyer (λ t. confirmed)) (by-number Buyer (λ t. confirmed)) no-trade (λ (t : Trade). allocation Seller t) (x .bought) (s .trades .rows) (x .sold) (λ t i. refl))
+      ∙ full Seller e) in
       subst (λ y. Fair (sides-of-now Confirmed y p) o (placed r s (ConfirmIntermediation q))) (sym here ∙ ap (find id (q .id)) (f .agrees .intermediations)) f2
 
   module _ (ids : rises-above id 0 (s .intermediations .rows) ≡ true) where
@@ -79,11 +82,11 @@ module _ (p : Plain) (o : Side → ℕ → Option Filling) (r : List Listed) (s 
     exclude-fair q a =
         let xs = s .intermediations .rows in
         let e : gone-if (find id (q .id) xs) p ≡ all-gone (those (λ x. eqb (x .id) (q .id)) (p .standing)) p =
-          sym (one-gone 0 (q .id) xs ids p) ∙ ap (λ ys. all-gone (those (λ x. eqb (x .id) (q .id)) ys) p) (f .agrees .intermediations) in
+        sym (one-gone 0 (q .id) xs ids p) ∙ ap (λ ys. all-gone (those (λ x. eqb (x .id) (q .id)) ys) p) (f .agrees .intermediations) in
         let u : (w : Side) (n : ℕ) → clear (find id (q .id) xs) o w n ≡ next p o r (ExcludeIntermediation q) a w n =
-          λ w n. ap (λ b. cond b None (o w n))
-            (holds-passes (find id (q .id) xs) w n ∙ sym (one-any 0 (q .id) xs ids (holds-side w n)) ∙ ap (any (λ x. eqb (x .id) (q .id) && holds-side w n x)) (f .agrees .intermediations))
-            ∙ emptied-if (any (λ x. eqb (x .id) (q .id) && holds-side w n x) (p .standing)) r (p .day) (terms-in p n) (o w n) in
+        λ w n. ap (λ b. cond b None (o w n))
+        (holds-passes (find id (q .id) xs) w n ∙ sym (one-any 0 (q .id) xs ids (holds-side w n)) ∙ ap (any (λ x. eqb (x .id) (q .id) && holds-side w n x)) (f .agrees .intermediations))
+        ∙ emptied-if (any (λ x. eqb (x .id) (q .id) && holds-side w n x) (p .standing)) r (p .day) (terms-in p n) (o w n) in
         fair-o _ (clear (find id (q .id) xs) o) _ _ u (subst (λ y. Fair y (clear (find id (q .id) xs) o) (excluded (q .id) s)) e (excluded-fair p o s f zero (q .id)))
 
     module _ (c : Chains s) (q : Cancellation) where
@@ -109,18 +112,18 @@ module _ (p : Plain) (o : Side → ℕ → Option Filling) (r : List Listed) (s 
           let f3 = cancelled-fair _ _ (excluded st (excluded bt s)) f2 n in
           let two : find id st (excluded bt s .intermediations .rows) ≡ find id st (removed id bt xs) = ap (find id st) (excluded-rows s bt) in
           let e : gone-if (find id st (excluded bt s .intermediations .rows)) (gone-if (find id bt xs) p) ≡ all-gone (those (names n) (p .standing)) p =
-            ap (λ y. gone-if y (gone-if (find id bt xs) p)) two ∙ sym (picked-gone 0 bt st xs ids p)
-            ∙ ap (λ ys. all-gone ys p) (sym (those-same (names n) (picks bt st) xs np)) ∙ ap (λ ys. all-gone (those (names n) ys) p) (f .agrees .intermediations) in
+          ap (λ y. gone-if y (gone-if (find id bt xs) p)) two ∙ sym (picked-gone 0 bt st xs ids p)
+          ∙ ap (λ ys. all-gone ys p) (sym (those-same (names n) (picks bt st) xs np)) ∙ ap (λ ys. all-gone (those (names n) ys) p) (f .agrees .intermediations) in
           let u : (w : Side) (m : ℕ) → cond (eqb n m) None (clear (find id st (excluded bt s .intermediations .rows)) (clear (find id bt xs) o) w m) ≡ next p o r (Cancel q) (Written k first) w m =
-            λ w m. cleared-twice (eqb n m) (holds-if (find id st (excluded bt s .intermediations .rows)) w m) (holds-if (find id bt xs) w m) (o w m)
-              ∙ ap (λ b. cond (eqb n m || b) None (o w m))
-                (ap₂ _||_ (ap (λ y. holds-if y w m) two ∙ holds-passes (find id st (removed id bt xs)) w m) (holds-passes (find id bt xs) w m)
-                ∙ sym (picked-any 0 bt st xs ids (holds-side w m))
-                ∙ sym (any-same (λ x. names n x && holds-side w m x) (λ x. picks bt st x && holds-side w m x) xs (λ x i. ap (λ b. b && holds-side w m x) (np x i)))
-                ∙ ap (any (λ x. names n x && holds-side w m x)) (f .agrees .intermediations))
-              ∙ emptied-if (eqb n m || any (λ x. names n x && holds-side w m x) (p .standing)) r (p .day) (terms-in p m) (o w m) in
+          λ w m. cleared-twice (eqb n m) (holds-if (find id st (excluded bt s .intermediations .rows)) w m) (holds-if (find id bt xs) w m) (o w m)
+          ∙ ap (λ b. cond (eqb n m || b) None (o w m))
+          (ap₂ _||_ (ap (λ y. holds-if y w m) two ∙ holds-passes (find id st (removed id bt xs)) w m) (holds-passes (find id bt xs) w m)
+          ∙ sym (picked-any 0 bt st xs ids (holds-side w m))
+          ∙ sym (any-same (λ x. names n x && holds-side w m x) (λ x. picks bt st x && holds-side w m x) xs (λ x i. ap (λ b. b && holds-side w m x) (np x i)))
+          ∙ ap (any (λ x. names n x && holds-side w m x)) (f .agrees .intermediations))
+          ∙ emptied-if (eqb n m || any (λ x. names n x && holds-side w m x) (p .standing)) r (p .day) (terms-in p m) (o w m) in
           fair-o _ (λ w m. cond (eqb n m) None (clear (find id st (excluded bt s .intermediations .rows)) (clear (find id bt xs) o) w m)) _ _ u
-            (subst (λ y. Fair (side-now Empty Seller n (side-now Empty Buyer n y)) (λ w m. cond (eqb n m) None (clear (find id st (excluded bt s .intermediations .rows)) (clear (find id bt xs) o) w m)) (at-trade n cancelled (excluded st (excluded bt s)))) e f3)
+          (subst (λ y. Fair (side-now Empty Seller n (side-now Empty Buyer n y)) (λ w m. cond (eqb n m) None (clear (find id st (excluded bt s .intermediations .rows)) (clear (find id bt xs) o) w m)) (at-trade n cancelled (excluded st (excluded bt s)))) e f3)
 
       pub cancel-fair : Stands s (q .trade) → Fair (fed p (Cancel q) (reply r s (Cancel q))) (next p o r (Cancel q) (reply r s (Cancel q))) (placed r s (Cancel q))
       unfolding placed
@@ -162,25 +165,31 @@ module _ (p : Plain) (o : Side → ℕ → Option Filling) (r : List Listed) (s 
     suited-leg t Buyer e = subst (λ b. suits (trade s (cond b (q .intermediation .bought) (q .intermediation .sold)) .terms .kind) (shown r (q .intermediation .account)) ≡ true) e (t .suited)
     suited-leg t Seller e =
         ⊎-elim (λ (i : has-leg Buyer (q .intermediation) ≡ true).
-          let like = t .alike-legs (and-from _ _ i e) in
-          let kind = same-kinds (trade s (q .intermediation .bought) .terms .kind) (trade s (q .intermediation .sold) .terms .kind) (and-parts _ _ (and-parts _ _ (and-parts _ _ like .0) .0) .0) in
-          subst (λ k. suits k (shown r (q .intermediation .account)) ≡ true) kind
-            (subst (λ b. suits (trade s (cond b (q .intermediation .bought) (q .intermediation .sold)) .terms .kind) (shown r (q .intermediation .account)) ≡ true) i (t .suited)))
+        let like = t .alike-legs (and-from _ _ i e) in
+        let kind = same-kinds (trade s (q .intermediation .bought) .terms .kind) (trade s (q .intermediation .sold) .terms .kind) (and-parts _ _ (and-parts _ _ (and-parts _ _ like .0) .0) .0) in
+        subst (λ k. suits k (shown r (q .intermediation .account)) ≡ true) kind
+        (subst (λ b. suits (trade s (cond b (q .intermediation .bought) (q .intermediation .sold)) .terms .kind) (shown r (q .intermediation .account)) ≡ true) i (t .suited)))
         (λ (i : has-leg Buyer (q .intermediation) ≡ false). subst (λ b. suits (trade s (cond b (q .intermediation .bought) (q .intermediation .sold)) .terms .kind) (shown r (q .intermediation .account)) ≡ true) i (t .suited))
         (cases-bool (has-leg Buyer (q .intermediation)))
 
     leg-good : Intermediates r s q → (w : Side) → has-leg w (q .intermediation) ≡ true → Sided (Some (fill (leg w (q .intermediation)))) w (entries (leg w (q .intermediation)))
     leg-good t w e =
         let n = leg w (q .intermediation) in
-        let known = sym (terms-known p s (f .agrees) n) in
-        (refl, (record {
-          account = shown r (q .intermediation .account);
-          listed = some-of no-account (account-in r (q .intermediation .account)) (t .listed);
-          active-then = subst (λ d. active d (shown r (q .intermediation .account)) ≡ true) (f .agrees .day) (t .awake);
-          suited = subst (λ (m : Terms). suits (m .kind) (shown r (q .intermediation .account)) ≡ true) known (suited-leg t w e);
-          tied = subst (λ (m : Terms). tied-in r (q .intermediation .account) (party w m) ≡ true) known
-            (subst (λ y. tied-in r (q .intermediation .account) y ≡ true) (calling-is (q .intermediation .participant) w (trade s n .terms) (t .free w e .owner)) (t .tied w e));
-          type-kept = refl }, tt))
+        let known = sym (terms-known p s (f .agrees) n) in (
+          refl,
+          (
+            record {
+              account = shown r (q .intermediation .account);
+              listed = some-of no-account (account-in r (q .intermediation .account)) (t .listed);
+              active-then = subst (λ d. active d (shown r (q .intermediation .account)) ≡ true) (f .agrees .day) (t .awake);
+              suited = subst (λ (m : Terms). suits (m .kind) (shown r (q .intermediation .account)) ≡ true) known (suited-leg t w e);
+              tied = subst (λ (m : Terms). tied-in r (q .intermediation .account) (party w m) ≡ true) known
+                  (subst (λ y. tied-in r (q .intermediation .account) y ≡ true) (calling-is (q .intermediation .participant) w (trade s n .terms) (t .free w e .owner)) (t .tied w e));
+              type-kept = refl;
+            },
+            tt,
+          ),
+        )
 
     filled-both : (a : Answer) (w : Side) (m : ℕ)
         → cond (on-leg Seller (q .intermediation .sold) w m) (Some (fill m)) (cond (on-leg Buyer (q .intermediation .bought) w m) (Some (fill m)) (o w m)) ≡ next p o r (Intermediate q) a w m
@@ -195,15 +204,15 @@ module _ (p : Plain) (o : Side → ℕ → Option Filling) (r : List Listed) (s 
         let us = changed number n (by Buyer rule) (s .trades .rows) in
         let f0 = enter-row p o s f (q .intermediation) in
         let f1 = fill-leg _ o _ f0 zero Buyer n rule (filled-as (q .now)) fill (entries n)
-          (λ t d. filled-state (q .now) (kept-entry r (whole-entry (q .intermediation .account) t) ∷ []) (q .intermediation .id) d)
-          (λ e. t .free Buyer e .trade .here)
-          (λ t e. rule-holds Buyer n t (quantity-known (s .trades .rows) n refl t e))
-          (λ t e. whole-sum n t (quantity-known (s .trades .rows) n refl t e))
-          (leg-good t Buyer) in
+        (λ t d. filled-state (q .now) (kept-entry r (whole-entry (q .intermediation .account) t) ∷ []) (q .intermediation .id) d)
+        (λ e. t .free Buyer e .trade .here)
+        (λ t e. rule-holds Buyer n t (quantity-known (s .trades .rows) n refl t e))
+        (λ t e. whole-sum n t (quantity-known (s .trades .rows) n refl t e))
+        (leg-good t Buyer) in
         let f2 = fill-leg _ _ _ f1 (none-left Buyer n rule (s .trades .rows) 0 zero) Seller m rule (filled-as (q .now)) fill (entries m)
-          (λ t d. filled-state (q .now) (kept-entry r (whole-entry (q .intermediation .account) t) ∷ []) (q .intermediation .id) d)
-          (λ e. there-left Buyer n rule (s .trades .rows) m ∙ t .free Seller e .trade .here)
-          (λ t e. rule-holds Seller m t (quantity-known us m (terms-left Buyer n rule (s .trades .rows) m) t e))
-          (λ t e. whole-sum m t (quantity-known us m (terms-left Buyer n rule (s .trades .rows) m) t e))
-          (leg-good t Seller) in
+        (λ t d. filled-state (q .now) (kept-entry r (whole-entry (q .intermediation .account) t) ∷ []) (q .intermediation .id) d)
+        (λ e. there-left Buyer n rule (s .trades .rows) m ∙ t .free Seller e .trade .here)
+        (λ t e. rule-holds Seller m t (quantity-known us m (terms-left Buyer n rule (s .trades .rows) m) t e))
+        (λ t e. whole-sum m t (quantity-known us m (terms-left Buyer n rule (s .trades .rows) m) t e))
+        (leg-good t Seller) in
         fair-o _ _ (next p o r (Intermediate q) a) _ (filled-both a) f2

@@ -124,10 +124,12 @@ module _ (s : State) (g : Sound s) where
 module _ (s : State) (g : Sound s) where
   -- the trades of a chain have its first trade for their first
   in-chain : (first : ℕ) (others : List ℕ) → Chain s first others → (n : ℕ) → In n (first ∷ others) → (is-some (find number n (s .trades .rows)) ≡ true) × (first-in (view s) n ≡ first)
-  in-chain first others c n i = each-in (λ m. (is-some (find number m (s .trades .rows)) ≡ true) × (first-in (view s) m ≡ first)) n (first ∷ others)
-      (start, subst (Each (λ m. (is-some (find number m (s .trades .rows)) ≡ true) × (first-in (view s) m ≡ first))) (sym (others-are s g first others c))
-      (each-behind s g (λ m. (is-some (find number m (s .trades .rows)) ≡ true) × (first-in (view s) m ≡ first)) first start
-      (λ m p z. (there-of s g Seller (tie-at (s .trades .rows) Buyer m) z, far-next (next (view s)) (prev (view s)) (walk-in s g) m z ∙ p .1)))) i
+  in-chain first others c n i = each-in (λ m. (is-some (find number m (s .trades .rows)) ≡ true) × (first-in (view s) m ≡ first)) n (first ∷ others) (
+    start,
+    subst (Each (λ m. (is-some (find number m (s .trades .rows)) ≡ true) × (first-in (view s) m ≡ first))) (sym (others-are s g first others c))
+        (each-behind s g (λ m. (is-some (find number m (s .trades .rows)) ≡ true) × (first-in (view s) m ≡ first)) first start
+        (λ m p z. (there-of s g Seller (tie-at (s .trades .rows) Buyer m) z, far-next (next (view s)) (prev (view s)) (walk-in s g) m z ∙ p .1))),
+  ) i
     where
       z : Not0 first
       z = here-not0 s g first (c .stands)

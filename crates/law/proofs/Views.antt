@@ -51,26 +51,62 @@ whole-chain v n = whole (next v) (prev v) (full v) n
 -- a view with other trades, other sides, other ties
 abbrev pub with-trades : (ℕ → Bool) → (ℕ → Bool) → (ℕ → Bool) → (ℕ → Common) → View → View
 with-trades p c n t v = record {
-  present = p; cancelled = c; num = n; terms = t; buyer = v .buyer; seller = v .seller;
-  buys = v .buys; sells = v .sells; bought = v .bought; sold = v .sold; pairs = v .pairs;
+  present = p;
+  cancelled = c;
+  num = n;
+  terms = t;
+  buyer = v .buyer;
+  seller = v .seller;
+  buys = v .buys;
+  sells = v .sells;
+  bought = v .bought;
+  sold = v .sold;
+  pairs = v .pairs;
 }
 
 abbrev pub with-sides : (ℕ → AllocationState) → (ℕ → AllocationState) → View → View
 with-sides b s v = record {
-  present = v .present; cancelled = v .cancelled; num = v .num; terms = v .terms; buyer = b; seller = s;
-  buys = v .buys; sells = v .sells; bought = v .bought; sold = v .sold; pairs = v .pairs;
+  present = v .present;
+  cancelled = v .cancelled;
+  num = v .num;
+  terms = v .terms;
+  buyer = b;
+  seller = s;
+  buys = v .buys;
+  sells = v .sells;
+  bought = v .bought;
+  sold = v .sold;
+  pairs = v .pairs;
 }
 
 abbrev pub with-ties : (ℕ → ℕ) → (ℕ → ℕ) → (ℕ → ℕ) → (ℕ → ℕ) → View → View
 with-ties b s x y v = record {
-  present = v .present; cancelled = v .cancelled; num = v .num; terms = v .terms; buyer = v .buyer; seller = v .seller;
-  buys = b; sells = s; bought = x; sold = y; pairs = v .pairs;
+  present = v .present;
+  cancelled = v .cancelled;
+  num = v .num;
+  terms = v .terms;
+  buyer = v .buyer;
+  seller = v .seller;
+  buys = b;
+  sells = s;
+  bought = x;
+  sold = y;
+  pairs = v .pairs;
 }
 
 abbrev pub with-pairs : List Pair → View → View
 with-pairs ps v = record {
-  present = v .present; cancelled = v .cancelled; num = v .num; terms = v .terms; buyer = v .buyer; seller = v .seller;
-  buys = v .buys; sells = v .sells; bought = v .bought; sold = v .sold; pairs = ps;
+  present = v .present;
+  cancelled = v .cancelled;
+  num = v .num;
+  terms = v .terms;
+  buyer = v .buyer;
+  seller = v .seller;
+  buys = v .buys;
+  sells = v .sells;
+  bought = v .bought;
+  sold = v .sold;
+  pairs = ps;
 }
 
 -- the buyer side of a and the seller side of c
@@ -106,8 +142,17 @@ exclude id v = unlink id (sides (v .bought id) (v .sold id) Empty v)
 
 abbrev pub nothing : View
 nothing = record {
-  present = λ n. false; cancelled = λ n. false; num = λ n. false; terms = λ n. record { kind = Selic; asset = 0; quantity = 0; settlement = 0 };
-  buyer = λ n. Empty; seller = λ n. Empty; buys = λ n. 0; sells = λ n. 0; bought = λ n. 0; sold = λ n. 0; pairs = [];
+  present = λ n. false;
+  cancelled = λ n. false;
+  num = λ n. false;
+  terms = λ n. record { kind = Selic; asset = 0; quantity = 0; settlement = 0 };
+  buyer = λ n. Empty;
+  seller = λ n. Empty;
+  buys = λ n. 0;
+  sells = λ n. 0;
+  bought = λ n. 0;
+  sold = λ n. 0;
+  pairs = [];
 }
 
 -- captured and not cancelled

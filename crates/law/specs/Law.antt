@@ -158,7 +158,7 @@ All-named (e ∷ h) = Named (e .answered) (length (written-since h)) (length (e 
 pub record Pairs (b : Beginning) (h : History) (s : State) : Type 0 where
   -- a chain all of whose sides are confirmed has its pairs: taken and numbered as they should be, they add up at each end
   pub confirmed : (first : ℕ) (others : List ℕ) → Chain s first others → All-confirmed s (first ∷ others)
-    → Paired (begun-for b (trade s first .terms)) (entries-held (trade s first .seller)) (entries-held (trade s (final first others) .buyer)) (pairs-of s first (final first others))
+      → Paired (begun-for b (trade s first .terms)) (entries-held (trade s first .seller)) (entries-held (trade s (final first others) .buyer)) (pairs-of s first (final first others))
   -- any other has none
   pub unconfirmed : (first : ℕ) (others : List ℕ) → Chain s first others → (All-confirmed s (first ∷ others) → ⊥) → pairs-of s first (final first others) ≡ []
   -- and each pair is a chain's
