@@ -1,15 +1,15 @@
 -- What each change of the tables shows by number.
-use Rattle.keyed.proofs.Words.{Bool, true, false, List, ⊎-elim, _≡_, refl, sym, ap, _∙_, ℕ, cases-eq, ne-eqb, eq-eqb, None, fun-ext}
-use Rattle.law.proofs.Subject.{intermediation-in, Intermediation, Pair, Side, Buyer, Seller, Terms, or-else, is-some, find, changed, entered, removed, rises-above, emptied, id, no-intermediation, number, allocation, is-cancelled, is-numbered, no-trade, at-side, numbered, AllocationState, Empty, Trade, trade-in}
 use Rattle.keyed.proofs.Keys.{row-entered, row-removed, still-there}
-use Rattle.rows.specs.Trades.{in-state, captured as captured-row}
+use Rattle.keyed.proofs.Words.{Bool, true, false, List, ⊎-elim, _≡_, refl, sym, ap, _∙_, ℕ, cases-eq, ne-eqb, eq-eqb, None, fun-ext, Option, Some, cond, eqb}
+use Rattle.rows.specs.Trades.{captured as captured-row}
 use Rattle.rows.specs.declared.row.Allocation.{Allocation as Half-row}
 use Rattle.chains.proofs.Puts.{put-same}
 use Rattle.chains.proofs.Ties.{put-on}
 use Rattle.chains.proofs.Walk.{put, Not0, Walk, far, joined}
 use Rattle.chains.proofs.Walks.{put-cases, put-off, far-next, far-far, member}
-use Rattle.book.specs.Effects.{cancelled}
-use Rattle.law.proofs.Shown.{common, shows, same-view, Here, None0, left, made, Only, buyer-view, seller-view, both-view, same-sides}
+use Rattle.book.specs.Effects.{cancelled, marked as marked-row}
+use Rattle.law.proofs.Shown.{common, shows, Here, None0, left, made, Only, buyer-view, seller-view, both-view, same-sides, is-numbered-trade, is-void, of-chain, rows-view, trade-put}
+use Rattle.law.proofs.Subject.{intermediation-in, Intermediation, Pair, Side, Buyer, Seller, Terms, or-else, is-some, find, changed, entered, removed, rises-above, emptied, id, no-intermediation, number, allocation, is-cancelled, is-numbered, no-trade, at-side, numbered, AllocationState, Empty, Trade, trade-in}
 use Rattle.law.proofs.Views.{View, next, prev, sides, link, captured, voided, exclude, re-numbered, with-sides, with-ties}
 
 -- the two legs that a side is
@@ -90,81 +90,54 @@ nothing-excluded n v b s = λ i. with-ties (fun-ext (λ m. put-off (v .bought n)
 
 pub captured-view : (t : Terms) (ts : List Trade) (xs : List Intermediation) (ps : List Pair) → Not0 (t .number) → find number (t .number) ts ≡ None
     → shows (entered number (captured-row t) ts) xs ps ≡ captured (t .number) (common t) (shows ts xs ps)
-captured-view t ts xs ps z a = same-view _ _ (record {
-  present = λ m. ap is-some (row-entered number (captured-row t) ts m a)
-      ∙ ⊎-elim (λ (e : m ≡ t .number). rw (eq-eqb _ _ e) (sym (put-on (t .number) true (λ k. is-some (find number k ts)) m e (λ y. z (sym e ∙ y)))))
-      (λ (e : m ≡ t .number → ⊥). rw (ne-eqb _ _ e) (sym (put-off (t .number) true (λ k. is-some (find number k ts)) m (λ q. absurd (e q))))) (cases-eq m (t .number));
-  cancelled = field (λ x. is-cancelled (x .state));
-  num = λ m. field (λ x. is-numbered (x .state)) m ∙ put-same (t .number) false (λ k. is-numbered (trade-in ts k .state)) m (λ _. ap (λ x. is-numbered (x .state)) (sym none));
-  terms = field (λ x. common (x .terms));
-  buyer = field (λ x. x .buyer .state);
-  seller = field (λ x. x .seller .state);
-  buys = λ m. field (λ x. x .buyer .tie) m ∙ put-same (t .number) 0 (λ k. trade-in ts k .buyer .tie) m (λ _. ap (λ x. x .buyer .tie) (sym none));
-  sells = λ m. field (λ x. x .seller .tie) m ∙ put-same (t .number) 0 (λ k. trade-in ts k .seller .tie) m (λ _. ap (λ x. x .seller .tie) (sym none));
-  bought = λ m. refl;
-  sold = λ m. refl;
-  pairs = refl;
-})
+captured-view t ts xs ps z a =
+    let us = entered number (captured-row t) ts in
+    let n = t .number in
+    let u = captured-row t in
+    let none : trade-in ts (t .number) ≡ no-trade = ap (or-else no-trade) a in
+    λ j. rows-view (fun-ext (λ m. ap is-some (row-entered number u ts m a) ∙ put-cond (is-some {X = Trade}) m) j) (made us ts n u there is-void false refl j)
+    (left us ts n u there is-numbered-trade (λ _. ap is-numbered-trade (sym none)) j) (made us ts n u there of-chain (common t) refl j)
+    (made us ts n u there (λ x. x .buyer .state) Empty refl j) (made us ts n u there (λ x. x .seller .state) Empty refl j)
+    (left us ts n u there (λ x. x .buyer .tie) (λ _. ap (λ x. x .buyer .tie) (sym none)) j) (left us ts n u there (λ x. x .seller .tie) (λ _. ap (λ x. x .seller .tie) (sym none)) j) xs ps
   where
-    none : trade-in ts (t .number) ≡ no-trade
-    none = ap (or-else no-trade) a
+    put-cond : {X : Type 0} (g : Option Trade → X) (m : ℕ) → g (cond (eqb m (t .number)) (Some (captured-row t)) (find number m ts)) ≡ put (t .number) (g (Some (captured-row t))) (λ k. g (find number k ts)) m
+    put-cond g m = ⊎-elim (λ (e : m ≡ t .number). rw (eq-eqb _ _ e) (sym (put-on (t .number) (g (Some (captured-row t))) (λ k. g (find number k ts)) m e (λ y. z (sym e ∙ y)))))
+        (λ (e : m ≡ t .number → ⊥). rw (ne-eqb _ _ e) (sym (put-off (t .number) (g (Some (captured-row t))) (λ k. g (find number k ts)) m (λ q. absurd (e q))))) (cases-eq m (t .number))
 
-    field : {X : Type 0} (g : Trade → X) (m : ℕ) → g (trade-in (entered number (captured-row t) ts) m) ≡ put (t .number) (g (captured-row t)) (λ k. g (trade-in ts k)) m
-    field g m = ap (λ o. g (or-else no-trade o)) (row-entered number (captured-row t) ts m a)
-        ∙ ⊎-elim (λ (e : m ≡ t .number). rw (eq-eqb _ _ e) (sym (put-on (t .number) (g (captured-row t)) (λ k. g (trade-in ts k)) m e (λ y. z (sym e ∙ y)))))
-        (λ (e : m ≡ t .number → ⊥). rw (ne-eqb _ _ e) (sym (put-off (t .number) (g (captured-row t)) (λ k. g (trade-in ts k)) m (λ q. absurd (e q))))) (cases-eq m (t .number))
+    there : (m : ℕ) → trade-in (entered number (captured-row t) ts) m ≡ put (t .number) (captured-row t) (trade-in ts) m
+    there m = ap (or-else no-trade) (row-entered number (captured-row t) ts m a) ∙ put-cond (or-else no-trade) m
 
 pub marked-view : (n : ℕ) (ts : List Trade) (xs : List Intermediation) (ps : List Pair) → Here n ts → None0 ts
-    → shows (changed number n (λ t. in-state (t .state) true t) ts) xs ps ≡ shows ts xs ps
+    → shows (changed number n marked-row ts) xs ps ≡ shows ts xs ps
 marked-view n ts xs ps h z =
-    let f : Trade → Trade = λ t. in-state (t .state) true t in
-    same-view _ _ (record {
-      present = still-there number f (λ t. refl) n ts;
-      cancelled = left n f ts (λ t. refl) h z (λ t. is-cancelled (t .state)) (λ _. refl);
-      num = left n f ts (λ t. refl) h z (λ t. is-numbered (t .state)) (λ _. refl);
-      terms = left n f ts (λ t. refl) h z (λ t. common (t .terms)) (λ _. refl);
-      buyer = left n f ts (λ t. refl) h z (λ t. t .buyer .state) (λ _. refl);
-      seller = left n f ts (λ t. refl) h z (λ t. t .seller .state) (λ _. refl);
-      buys = left n f ts (λ t. refl) h z (λ t. t .buyer .tie) (λ _. refl);
-      sells = left n f ts (λ t. refl) h z (λ t. t .seller .tie) (λ _. refl);
-      bought = λ m. refl;
-      sold = λ m. refl;
-      pairs = refl;
-    })
+    let us = changed number n marked-row ts in
+    let u = marked-row (trade-in ts n) in
+    let e = trade-put n marked-row ts (λ _. refl) h z in
+    λ j. rows-view (fun-ext (still-there number marked-row (λ _. refl) n ts) j) (left us ts n u e is-void (λ _. refl) j) (left us ts n u e is-numbered-trade (λ _. refl) j)
+    (left us ts n u e of-chain (λ _. refl) j) (left us ts n u e (λ t. t .buyer .state) (λ _. refl) j) (left us ts n u e (λ t. t .seller .state) (λ _. refl) j)
+    (left us ts n u e (λ t. t .buyer .tie) (λ _. refl) j) (left us ts n u e (λ t. t .seller .tie) (λ _. refl) j) xs ps
 
 pub voided-view : (n : ℕ) (ts : List Trade) (xs : List Intermediation) (ps : List Pair) → Here n ts → None0 ts → is-numbered (trade-in ts n .state) ≡ false
     → trade-in ts n .buyer .tie ≡ 0 → trade-in ts n .seller .tie ≡ 0
     → shows (changed number n cancelled ts) xs ps ≡ voided n (shows ts xs ps)
-voided-view n ts xs ps h z nn zb zs = same-view _ _ (record {
-  present = still-there number cancelled (λ t. refl) n ts;
-  cancelled = made n cancelled ts (λ t. refl) h z (λ t. is-cancelled (t .state)) true refl;
-  num = left n cancelled ts (λ t. refl) h z (λ t. is-numbered (t .state)) (λ _. sym nn);
-  terms = left n cancelled ts (λ t. refl) h z (λ t. common (t .terms)) (λ _. refl);
-  buyer = made n cancelled ts (λ t. refl) h z (λ t. t .buyer .state) Empty refl;
-  seller = made n cancelled ts (λ t. refl) h z (λ t. t .seller .state) Empty refl;
-  buys = left n cancelled ts (λ t. refl) h z (λ t. t .buyer .tie) (λ _. sym zb);
-  sells = left n cancelled ts (λ t. refl) h z (λ t. t .seller .tie) (λ _. sym zs);
-  bought = λ m. refl;
-  sold = λ m. refl;
-  pairs = refl;
-})
+voided-view n ts xs ps h z nn zb zs =
+    let us = changed number n cancelled ts in
+    let u = cancelled (trade-in ts n) in
+    let e = trade-put n cancelled ts (λ _. refl) h z in
+    λ j. rows-view (fun-ext (still-there number cancelled (λ _. refl) n ts) j) (made us ts n u e is-void true refl j) (left us ts n u e is-numbered-trade (λ _. sym nn) j)
+    (left us ts n u e of-chain (λ _. refl) j) (made us ts n u e (λ t. t .buyer .state) Empty refl j) (made us ts n u e (λ t. t .seller .state) Empty refl j)
+    (left us ts n u e (λ t. t .buyer .tie) (λ _. sym zb) j) (left us ts n u e (λ t. t .seller .tie) (λ _. sym zs) j) xs ps
 
 -- trades numbered
 pub numbered-one : (n : ℕ) (ts : List Trade) (xs : List Intermediation) (ps : List Pair) → Here n ts → None0 ts → (Not0 n → is-cancelled (trade-in ts n .state) ≡ false)
     → shows (changed number n numbered ts) xs ps ≡ re-numbered (put n true (shows ts xs ps .num)) (shows ts xs ps)
-numbered-one n ts xs ps h z nx = same-view _ _ (record {
-  present = still-there number numbered (λ t. refl) n ts;
-  cancelled = left n numbered ts (λ t. refl) h z (λ t. is-cancelled (t .state)) (λ y. sym (nx y));
-  num = made n numbered ts (λ t. refl) h z (λ t. is-numbered (t .state)) true refl;
-  terms = left n numbered ts (λ t. refl) h z (λ t. common (t .terms)) (λ _. refl);
-  buyer = left n numbered ts (λ t. refl) h z (λ t. t .buyer .state) (λ _. refl);
-  seller = left n numbered ts (λ t. refl) h z (λ t. t .seller .state) (λ _. refl);
-  buys = left n numbered ts (λ t. refl) h z (λ t. t .buyer .tie) (λ _. refl);
-  sells = left n numbered ts (λ t. refl) h z (λ t. t .seller .tie) (λ _. refl);
-  bought = λ m. refl;
-  sold = λ m. refl;
-  pairs = refl;
-})
+numbered-one n ts xs ps h z nx =
+    let us = changed number n numbered ts in
+    let u = numbered (trade-in ts n) in
+    let e = trade-put n numbered ts (λ _. refl) h z in
+    λ j. rows-view (fun-ext (still-there number numbered (λ _. refl) n ts) j) (left us ts n u e is-void (λ y. sym (nx y)) j) (made us ts n u e is-numbered-trade true refl j)
+    (left us ts n u e of-chain (λ _. refl) j) (left us ts n u e (λ t. t .buyer .state) (λ _. refl) j) (left us ts n u e (λ t. t .seller .state) (λ _. refl) j)
+    (left us ts n u e (λ t. t .buyer .tie) (λ _. refl) j) (left us ts n u e (λ t. t .seller .tie) (λ _. refl) j) xs ps
 
 -- three marks number the chain
 pub joined-yes : (prev : ℕ → ℕ) (n : ℕ) (num : ℕ → Bool) (k : ℕ) → Not0 k → far prev k ≡ far prev n → joined prev n num k ≡ true

@@ -1,12 +1,11 @@
 -- What the rows of a book show by number.
-use Rattle.keyed.proofs.Words.{true, false, List, map, _≡_, refl, ap, fun-ext, _∙_, ℕ}
-use Rattle.law.proofs.Subject.{intermediation-in, Intermediation, Pair, Side, Buyer, Seller, Terms, is-some, find, changed, other, number, allocation, is-cancelled, is-numbered, no-trade, AllocationState, Trade, trade-in}
 use Rattle.keyed.proofs.Keys.{still-there}
+use Rattle.keyed.proofs.Words.{true, false, List, map, _≡_, refl, ap, fun-ext, _∙_, ℕ, Bool}
 use Rattle.chains.proofs.Puts.{put-map, put-same, look-put}
 use Rattle.chains.proofs.Walk.{put, Not0, Pair as Ends, pair}
-use Rattle.book.specs.Effects.{cancelled}
 use Rattle.book.specs.State.{State}
-use Rattle.law.proofs.Views.{View, Common, sides, with-sides, with-ties}
+use Rattle.law.proofs.Subject.{intermediation-in, Intermediation, Pair, Side, Buyer, Seller, Terms, is-some, find, changed, other, number, allocation, is-cancelled, is-numbered, no-trade, AllocationState, Trade, trade-in}
+use Rattle.law.proofs.Views.{View, Common, sides, with-sides, with-ties, view-of}
 
 abbrev pub common : Terms → Common
 common t = record { kind = t .kind; asset = t .asset; quantity = t .quantity; settlement = t .settlement }
@@ -14,52 +13,27 @@ common t = record { kind = t .kind; asset = t .asset; quantity = t .quantity; se
 abbrev pub ends : Pair → Ends
 ends p = pair (p .first) (p .last)
 
+-- what is seen of a trade
+abbrev pub is-void : Trade → Bool
+is-void t = is-cancelled (t .state)
+
+abbrev pub is-numbered-trade : Trade → Bool
+is-numbered-trade t = is-numbered (t .state)
+
+abbrev pub of-chain : Trade → Common
+of-chain t = common (t .terms)
+
+-- trades, whatever they are, with these intermediations and pairs
+abbrev pub rows-view : (ℕ → Bool) → (ℕ → Bool) → (ℕ → Bool) → (ℕ → Common) → (ℕ → AllocationState) → (ℕ → AllocationState) → (ℕ → ℕ) → (ℕ → ℕ) → List Intermediation → List Pair → View
+rows-view p c n t b s b′ s′ xs ps = view-of p c n t b s b′ s′ (λ i. intermediation-in xs i .bought) (λ i. intermediation-in xs i .sold) (map ends ps)
+
 abbrev pub shows : List Trade → List Intermediation → List Pair → View
-shows ts xs ps = record {
-  present = λ n. is-some (find number n ts);
-  cancelled = λ n. is-cancelled (trade-in ts n .state);
-  num = λ n. is-numbered (trade-in ts n .state);
-  terms = λ n. common (trade-in ts n .terms);
-  buyer = λ n. trade-in ts n .buyer .state;
-  seller = λ n. trade-in ts n .seller .state;
-  buys = λ n. trade-in ts n .buyer .tie;
-  sells = λ n. trade-in ts n .seller .tie;
-  bought = λ i. intermediation-in xs i .bought;
-  sold = λ i. intermediation-in xs i .sold;
-  pairs = map ends ps;
-}
+shows ts xs ps =
+    rows-view (λ n. is-some (find number n ts)) (λ n. is-void (trade-in ts n)) (λ n. is-numbered-trade (trade-in ts n)) (λ n. of-chain (trade-in ts n))
+    (λ n. trade-in ts n .buyer .state) (λ n. trade-in ts n .seller .state) (λ n. trade-in ts n .buyer .tie) (λ n. trade-in ts n .seller .tie) xs ps
 
 abbrev pub view : State → View
 view s = shows (s .trades .rows) (s .intermediations .rows) (s .pairs .rows)
-
--- two views that show the same of every number
-pub record Agree (v u : View) : Type 0 where
-  pub present : (n : ℕ) → v .present n ≡ u .present n
-  pub cancelled : (n : ℕ) → v .cancelled n ≡ u .cancelled n
-  pub num : (n : ℕ) → v .num n ≡ u .num n
-  pub terms : (n : ℕ) → v .terms n ≡ u .terms n
-  pub buyer : (n : ℕ) → v .buyer n ≡ u .buyer n
-  pub seller : (n : ℕ) → v .seller n ≡ u .seller n
-  pub buys : (n : ℕ) → v .buys n ≡ u .buys n
-  pub sells : (n : ℕ) → v .sells n ≡ u .sells n
-  pub bought : (n : ℕ) → v .bought n ≡ u .bought n
-  pub sold : (n : ℕ) → v .sold n ≡ u .sold n
-  pub pairs : v .pairs ≡ u .pairs
-
-pub same-view : (v u : View) → Agree v u → v ≡ u
-same-view v u a = λ i. record {
-  present = fun-ext (a .present) i;
-  cancelled = fun-ext (a .cancelled) i;
-  num = fun-ext (a .num) i;
-  terms = fun-ext (a .terms) i;
-  buyer = fun-ext (a .buyer) i;
-  seller = fun-ext (a .seller) i;
-  buys = fun-ext (a .buys) i;
-  sells = fun-ext (a .sells) i;
-  bought = fun-ext (a .bought) i;
-  sold = fun-ext (a .sold) i;
-  pairs = a .pairs i;
-}
 
 -- the trade of that number is in the list
 abbrev pub Here : ℕ → List Trade → Type 0
@@ -79,12 +53,13 @@ module _ (n : ℕ) (f : Trade → Trade) (ts : List Trade) (keeps : (t : Trade) 
     pub trade-put : (m : ℕ) → trade-in (changed number n f ts) m ≡ put n (f (trade-in ts n)) (trade-in ts) m
     trade-put m = look-put number no-trade f keeps n ts here none m
 
-    -- a field that the change leaves, and one that it makes
-    pub left : {X : Type 0} (g : Trade → X) → (Not0 n → g (f (trade-in ts n)) ≡ g (trade-in ts n)) → (m : ℕ) → g (trade-in (changed number n f ts) m) ≡ g (trade-in ts m)
-    left g h m = ap g (trade-put m) ∙ put-map g n (f (trade-in ts n)) (trade-in ts) m ∙ put-same n (g (f (trade-in ts n))) (λ k. g (trade-in ts k)) m h
+-- The trades us, which are those of ts with another one at n: a part of it that is as before, and one that is another.
+module _ (us ts : List Trade) (n : ℕ) (t : Trade) (e : (m : ℕ) → trade-in us m ≡ put n t (trade-in ts) m) where
+  pub made : {X : Type 0} (g : Trade → X) (x : X) → g t ≡ x → _≡_ {A = ℕ → X} (λ m. g (trade-in us m)) (put n x (λ k. g (trade-in ts k)))
+  made g x h = fun-ext (λ m. ap g (e m) ∙ put-map g n t (trade-in ts) m ∙ ap (λ y. put n y (λ k. g (trade-in ts k)) m) h)
 
-    pub made : {X : Type 0} (g : Trade → X) (x : X) → g (f (trade-in ts n)) ≡ x → (m : ℕ) → g (trade-in (changed number n f ts) m) ≡ put n x (λ k. g (trade-in ts k)) m
-    made g x h m = ap g (trade-put m) ∙ put-map g n (f (trade-in ts n)) (trade-in ts) m ∙ ap (λ y. put n y (λ k. g (trade-in ts k)) m) h
+  pub left : {X : Type 0} (g : Trade → X) → (Not0 n → g t ≡ g (trade-in ts n)) → _≡_ {A = ℕ → X} (λ m. g (trade-in us m)) (λ k. g (trade-in ts k))
+  left g h = fun-ext (λ m. ap g (e m) ∙ put-map g n t (trade-in ts) m ∙ put-same n (g t) (λ k. g (trade-in ts k)) m h)
 
 -- the same book with other sides
 abbrev pub re-sided : (ℕ → AllocationState) → (ℕ → AllocationState) → (ℕ → ℕ) → (ℕ → ℕ) → View → View
@@ -104,39 +79,25 @@ pub buyer-view : (n : ℕ) (f : Trade → Trade) (ts : List Trade) (xs : List In
     → (x : AllocationState) → f (trade-in ts n) .buyer .state ≡ x → (i : ℕ) → f (trade-in ts n) .buyer .tie ≡ i
     → shows (changed number n f ts) xs ps ≡ re-sided (put n x (shows ts xs ps .buyer)) (shows ts xs ps .seller) (put n i (shows ts xs ps .buys)) (shows ts xs ps .sells) (shows ts xs ps)
 buyer-view n f ts xs ps o h z x ex i ei =
+    let us = changed number n f ts in
     let keeps : (t : Trade) → number (f t) ≡ number t = λ t. ap (λ (e : Terms). e .number) (o .terms t) in
-    same-view _ _ (record {
-      present = still-there number f keeps n ts;
-      cancelled = left n f ts keeps h z (λ t. is-cancelled (t .state)) (λ _. ap is-cancelled (o .state _));
-      num = left n f ts keeps h z (λ t. is-numbered (t .state)) (λ _. ap is-numbered (o .state _));
-      terms = left n f ts keeps h z (λ t. common (t .terms)) (λ _. ap common (o .terms _));
-      buyer = made n f ts keeps h z (λ t. t .buyer .state) x ex;
-      seller = left n f ts keeps h z (λ t. t .seller .state) (λ _. ap (λ d. d .state) (o .across (trade-in ts n)));
-      buys = made n f ts keeps h z (λ t. t .buyer .tie) i ei;
-      sells = left n f ts keeps h z (λ t. t .seller .tie) (λ _. ap (λ d. d .tie) (o .across (trade-in ts n)));
-      bought = λ m. refl;
-      sold = λ m. refl;
-      pairs = refl;
-    })
+    let e = trade-put n f ts keeps h z in
+    let u = f (trade-in ts n) in
+    λ j. rows-view (fun-ext (still-there number f keeps n ts) j) (left us ts n u e is-void (λ _. ap is-cancelled (o .state _)) j) (left us ts n u e is-numbered-trade (λ _. ap is-numbered (o .state _)) j)
+    (left us ts n u e of-chain (λ _. ap common (o .terms _)) j) (made us ts n u e (λ t. t .buyer .state) x ex j) (left us ts n u e (λ t. t .seller .state) (λ _. ap (λ d. d .state) (o .across _)) j)
+    (made us ts n u e (λ t. t .buyer .tie) i ei j) (left us ts n u e (λ t. t .seller .tie) (λ _. ap (λ d. d .tie) (o .across _)) j) xs ps
 
 pub seller-view : (n : ℕ) (f : Trade → Trade) (ts : List Trade) (xs : List Intermediation) (ps : List Pair) → Only Seller f → Here n ts → None0 ts
     → (x : AllocationState) → f (trade-in ts n) .seller .state ≡ x → (i : ℕ) → f (trade-in ts n) .seller .tie ≡ i
     → shows (changed number n f ts) xs ps ≡ re-sided (shows ts xs ps .buyer) (put n x (shows ts xs ps .seller)) (shows ts xs ps .buys) (put n i (shows ts xs ps .sells)) (shows ts xs ps)
 seller-view n f ts xs ps o h z x ex i ei =
+    let us = changed number n f ts in
     let keeps : (t : Trade) → number (f t) ≡ number t = λ t. ap (λ (e : Terms). e .number) (o .terms t) in
-    same-view _ _ (record {
-      present = still-there number f keeps n ts;
-      cancelled = left n f ts keeps h z (λ t. is-cancelled (t .state)) (λ _. ap is-cancelled (o .state _));
-      num = left n f ts keeps h z (λ t. is-numbered (t .state)) (λ _. ap is-numbered (o .state _));
-      terms = left n f ts keeps h z (λ t. common (t .terms)) (λ _. ap common (o .terms _));
-      buyer = left n f ts keeps h z (λ t. t .buyer .state) (λ _. ap (λ d. d .state) (o .across (trade-in ts n)));
-      seller = made n f ts keeps h z (λ t. t .seller .state) x ex;
-      buys = left n f ts keeps h z (λ t. t .buyer .tie) (λ _. ap (λ d. d .tie) (o .across (trade-in ts n)));
-      sells = made n f ts keeps h z (λ t. t .seller .tie) i ei;
-      bought = λ m. refl;
-      sold = λ m. refl;
-      pairs = refl;
-    })
+    let e = trade-put n f ts keeps h z in
+    let u = f (trade-in ts n) in
+    λ j. rows-view (fun-ext (still-there number f keeps n ts) j) (left us ts n u e is-void (λ _. ap is-cancelled (o .state _)) j) (left us ts n u e is-numbered-trade (λ _. ap is-numbered (o .state _)) j)
+    (left us ts n u e of-chain (λ _. ap common (o .terms _)) j) (left us ts n u e (λ t. t .buyer .state) (λ _. ap (λ d. d .state) (o .across _)) j) (made us ts n u e (λ t. t .seller .state) x ex j)
+    (left us ts n u e (λ t. t .buyer .tie) (λ _. ap (λ d. d .tie) (o .across _)) j) (made us ts n u e (λ t. t .seller .tie) i ei j) xs ps
 
 -- both legs: the buyer side of a, then the seller side of c
 module _ (a c : ℕ) (f g : Trade → Trade) (ts : List Trade) (xs : List Intermediation) (ps : List Pair) (of : Only Buyer f) (og : Only Seller g)

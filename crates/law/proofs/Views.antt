@@ -1,7 +1,7 @@
 -- The book seen by numbers: what stands at each trade and at each intermediation.
 use Rattle.keyed.proofs.Words.{Bool, true, false, not, _&&_, cond, List, [], _++_, _≡_, ℕ, eqb}
-use Rattle.law.proofs.Subject.{Kind, Selic, is-confirmed, AllocationState, Empty}
 use Rattle.chains.proofs.Walk.{put, Not0, far, whole, Pair, joined, Half, Numbered}
+use Rattle.law.proofs.Subject.{Kind, Selic, is-confirmed, AllocationState, Empty}
 
 abbrev pub sure : AllocationState → Bool
 sure x = is-confirmed x
@@ -48,66 +48,21 @@ last v = far (next v)
 abbrev pub whole-chain : View → ℕ → Bool
 whole-chain v n = whole (next v) (prev v) (full v) n
 
--- a view with other trades, other sides, other ties
+-- a view by its parts, and one with other trades, sides, ties or pairs
+abbrev pub view-of : (ℕ → Bool) → (ℕ → Bool) → (ℕ → Bool) → (ℕ → Common) → (ℕ → AllocationState) → (ℕ → AllocationState) → (ℕ → ℕ) → (ℕ → ℕ) → (ℕ → ℕ) → (ℕ → ℕ) → List Pair → View
+view-of p c n t b s b′ s′ x y ps = record { present = p; cancelled = c; num = n; terms = t; buyer = b; seller = s; buys = b′; sells = s′; bought = x; sold = y; pairs = ps }
+
 abbrev pub with-trades : (ℕ → Bool) → (ℕ → Bool) → (ℕ → Bool) → (ℕ → Common) → View → View
-with-trades p c n t v = record {
-  present = p;
-  cancelled = c;
-  num = n;
-  terms = t;
-  buyer = v .buyer;
-  seller = v .seller;
-  buys = v .buys;
-  sells = v .sells;
-  bought = v .bought;
-  sold = v .sold;
-  pairs = v .pairs;
-}
+with-trades p c n t v = view-of p c n t (v .buyer) (v .seller) (v .buys) (v .sells) (v .bought) (v .sold) (v .pairs)
 
 abbrev pub with-sides : (ℕ → AllocationState) → (ℕ → AllocationState) → View → View
-with-sides b s v = record {
-  present = v .present;
-  cancelled = v .cancelled;
-  num = v .num;
-  terms = v .terms;
-  buyer = b;
-  seller = s;
-  buys = v .buys;
-  sells = v .sells;
-  bought = v .bought;
-  sold = v .sold;
-  pairs = v .pairs;
-}
+with-sides b s v = view-of (v .present) (v .cancelled) (v .num) (v .terms) b s (v .buys) (v .sells) (v .bought) (v .sold) (v .pairs)
 
 abbrev pub with-ties : (ℕ → ℕ) → (ℕ → ℕ) → (ℕ → ℕ) → (ℕ → ℕ) → View → View
-with-ties b s x y v = record {
-  present = v .present;
-  cancelled = v .cancelled;
-  num = v .num;
-  terms = v .terms;
-  buyer = v .buyer;
-  seller = v .seller;
-  buys = b;
-  sells = s;
-  bought = x;
-  sold = y;
-  pairs = v .pairs;
-}
+with-ties b s x y v = view-of (v .present) (v .cancelled) (v .num) (v .terms) (v .buyer) (v .seller) b s x y (v .pairs)
 
 abbrev pub with-pairs : List Pair → View → View
-with-pairs ps v = record {
-  present = v .present;
-  cancelled = v .cancelled;
-  num = v .num;
-  terms = v .terms;
-  buyer = v .buyer;
-  seller = v .seller;
-  buys = v .buys;
-  sells = v .sells;
-  bought = v .bought;
-  sold = v .sold;
-  pairs = ps;
-}
+with-pairs ps v = view-of (v .present) (v .cancelled) (v .num) (v .terms) (v .buyer) (v .seller) (v .buys) (v .sells) (v .bought) (v .sold) ps
 
 -- the buyer side of a and the seller side of c
 abbrev pub sides : ℕ → ℕ → AllocationState → View → View
@@ -141,19 +96,8 @@ abbrev pub exclude : ℕ → View → View
 exclude id v = unlink id (sides (v .bought id) (v .sold id) Empty v)
 
 abbrev pub nothing : View
-nothing = record {
-  present = λ n. false;
-  cancelled = λ n. false;
-  num = λ n. false;
-  terms = λ n. record { kind = Selic; asset = 0; quantity = 0; settlement = 0 };
-  buyer = λ n. Empty;
-  seller = λ n. Empty;
-  buys = λ n. 0;
-  sells = λ n. 0;
-  bought = λ n. 0;
-  sold = λ n. 0;
-  pairs = [];
-}
+nothing =
+    view-of (λ n. false) (λ n. false) (λ n. false) (λ n. record { kind = Selic; asset = 0; quantity = 0; settlement = 0 }) (λ n. Empty) (λ n. Empty) (λ n. 0) (λ n. 0) (λ n. 0) (λ n. 0) []
 
 -- captured and not cancelled
 abbrev pub live : View → ℕ → Bool
