@@ -1,14 +1,14 @@
 -- On which grounds a request is not refused.
-use Rattle.keyed.proofs.Words.{Bool, false, true, cond, List, [], _∷_, ap, refl, sym, _≡_, _∙_, ℕ, _+_, arith, eqb, both-ways, eq-eqb, Option, None, Some}
-use Rattle.law.proofs.Subject.{number-of, Refusal, Entry, Intermediation, Kind, Pair, Side, Buyer, Seller, Terms, Table, Listed, Cancellation, Closing, Inclusion, IntermediationCall, NewIntermediation, NewTrade, Request, Cancel, Capture, Close, Confirm, ConfirmIntermediation, ExcludeIntermediation, Include, Intermediate, Remove, SideCall, held, other, has-leg, allocation, AllocationState, KeptEntry, Trade}
 use Rattle.std.proofs.shelf.Ways.{tells}
 use Rattle.fields.specs.declared.account.AccountType.{AccountType}
+use Rattle.keyed.proofs.Words.{Bool, false, true, cond, List, [], _∷_, ap, refl, sym, _≡_, _∙_, ℕ, _+_, arith, eqb, both-ways, eq-eqb, Option, None, Some}
 use Rattle.book.specs.Entries.{entries-of, shown}
 use Rattle.book.specs.Fields.{side-fields, capture-fields, call-fields, cancel-fields, closing-fields, entries-fields, entry-fields, fields-verdict, inclusion-fields, intermediation-fields, leg-fields, party-fields}
 use Rattle.book.specs.Numbering.{completed}
 use Rattle.book.specs.State.{State}
 use Rattle.book.specs.Tests.{in-turn, only-if}
 use Rattle.book.specs.Verdicts.{account-verdict, capture-verdict, closing-verdict, completed-verdict, each-leg-verdict, empty-verdict, entries-verdict, entry-verdict, id-verdict, inclusion-verdict, intermediary-verdict, leg-opposite-verdict, leg-tied-verdict, numbers-verdict, opposite-verdict, opposites-verdict, outside-verdict, side-verdict, sides-verdict, tables-verdict, ties-verdict, unnumbered-verdict}
+use Rattle.law.proofs.Subject.{number-of, Refusal, Entry, Intermediation, Kind, Pair, Side, Buyer, Seller, Terms, Table, Listed, Closing, Request, Cancel, Capture, Close, Confirm, ConfirmIntermediation, ExcludeIntermediation, Include, Intermediate, Remove, held, other, has-leg, allocation, AllocationState, KeptEntry, Trade}
 
 -- the verdict is a refusal on the ground with this number
 abbrev pub on-ground : ℕ → Option Refusal → Bool
@@ -57,45 +57,9 @@ calm-none = (record { off = refl }, record { off = refl })
 calm-turns : (a b : Option Refusal) → Calm a → Calm b → Calm (in-turn a b)
 calm-turns a b h i = (turns (h .0) (i .0), turns (h .1) (i .1))
 
-pub calm-capture-fields : (q : NewTrade) → Calm (capture-fields q)
-unfolding capture-fields
-calm-capture-fields q = (record { off = grind (arith, tells) }, record { off = grind (arith, tells) })
-
-pub calm-party-fields : (t : Terms) → Calm (party-fields t)
-unfolding party-fields
-calm-party-fields t = (record { off = grind (arith, tells) }, record { off = grind (arith, tells) })
-
-pub calm-cancel-fields : (q : Cancellation) → Calm (cancel-fields q)
-unfolding cancel-fields
-calm-cancel-fields q = (record { off = grind (arith, tells) }, record { off = grind (arith, tells) })
-
-pub calm-inclusion-fields : (q : Inclusion) → Calm (inclusion-fields q)
-unfolding inclusion-fields
-calm-inclusion-fields q = (record { off = grind (arith, tells) }, record { off = grind (arith, tells) })
-
 pub calm-entry-fields : (place : ℕ) (e : Entry) → Calm (entry-fields place e)
 unfolding entry-fields
 calm-entry-fields place e = (record { off = grind (arith, tells) }, record { off = grind (arith, tells) })
-
-pub calm-side-fields : (q : SideCall) → Calm (side-fields q)
-unfolding side-fields
-calm-side-fields q = (record { off = grind (arith, tells) }, record { off = grind (arith, tells) })
-
-pub calm-intermediation-fields : (q : NewIntermediation) → Calm (intermediation-fields q)
-unfolding intermediation-fields
-calm-intermediation-fields q = (record { off = grind (arith, tells) }, record { off = grind (arith, tells) })
-
-pub calm-leg-fields : (x : Intermediation) → Calm (leg-fields x)
-unfolding leg-fields
-calm-leg-fields x = (record { off = grind (arith, tells) }, record { off = grind (arith, tells) })
-
-pub calm-call-fields : (q : IntermediationCall) → Calm (call-fields q)
-unfolding call-fields
-calm-call-fields q = (record { off = grind (arith, tells) }, record { off = grind (arith, tells) })
-
-pub calm-closing-fields : (q : Closing) → Calm (closing-fields q)
-unfolding closing-fields
-calm-closing-fields q = (record { off = grind (arith, tells) }, record { off = grind (arith, tells) })
 
 pub calm-tables-verdict : (ts : Table Trade) (xs : Table Intermediation) (ps : Table Pair) → Calm (tables-verdict ts xs ps)
 unfolding tables-verdict
@@ -186,13 +150,13 @@ unfolding opposites-verdict
 calm-opposites ts x = (legs 9 x (leg-opposite-verdict ts x) (λ p w. calm-leg-opposite-verdict ts x p w .0), legs 30 x (leg-opposite-verdict ts x) (λ p w. calm-leg-opposite-verdict ts x p w .1))
 
 pub calm-fields : (q : Request) → Calm (fields-verdict q)
-unfolding fields-verdict
-calm-fields (Capture q) = calm-turns _ _ (calm-capture-fields q) (calm-party-fields (q .terms))
-calm-fields (Cancel q) = calm-cancel-fields q
-calm-fields (Include q) = calm-turns _ _ (calm-inclusion-fields q) (calm-entries-fields 8 (entries-of q))
-calm-fields (Remove q) = calm-side-fields q
-calm-fields (Confirm q) = calm-side-fields q
-calm-fields (Intermediate q) = calm-turns _ _ (calm-intermediation-fields q) (calm-leg-fields (q .intermediation))
-calm-fields (ConfirmIntermediation q) = calm-call-fields q
-calm-fields (ExcludeIntermediation q) = calm-call-fields q
-calm-fields (Close q) = calm-closing-fields q
+unfolding fields-verdict capture-fields party-fields cancel-fields inclusion-fields side-fields intermediation-fields leg-fields call-fields closing-fields
+calm-fields (Capture q) = (record { off = grind (arith, tells) }, record { off = grind (arith, tells) })
+calm-fields (Cancel q) = (record { off = grind (arith, tells) }, record { off = grind (arith, tells) })
+calm-fields (Include q) = let e = calm-entries-fields 8 (entries-of q) in (record { off = grind (arith, tells, e .0 .off) }, record { off = grind (arith, tells, e .1 .off) })
+calm-fields (Remove q) = (record { off = grind (arith, tells) }, record { off = grind (arith, tells) })
+calm-fields (Confirm q) = (record { off = grind (arith, tells) }, record { off = grind (arith, tells) })
+calm-fields (Intermediate q) = (record { off = grind (arith, tells) }, record { off = grind (arith, tells) })
+calm-fields (ConfirmIntermediation q) = (record { off = grind (arith, tells) }, record { off = grind (arith, tells) })
+calm-fields (ExcludeIntermediation q) = (record { off = grind (arith, tells) }, record { off = grind (arith, tells) })
+calm-fields (Close q) = (record { off = grind (arith, tells) }, record { off = grind (arith, tells) })
