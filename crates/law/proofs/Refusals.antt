@@ -57,10 +57,6 @@ calm-none = (record { off = refl }, record { off = refl })
 calm-turns : (a b : Option Refusal) → Calm a → Calm b → Calm (in-turn a b)
 calm-turns a b h i = (turns (h .0) (i .0), turns (h .1) (i .1))
 
-pub calm-entry-fields : (place : ℕ) (e : Entry) → Calm (entry-fields place e)
-unfolding entry-fields
-calm-entry-fields place e = (record { off = grind (arith, tells) }, record { off = grind (arith, tells) })
-
 pub calm-tables-verdict : (ts : Table Trade) (xs : Table Intermediation) (ps : Table Pair) → Calm (tables-verdict ts xs ps)
 unfolding tables-verdict
 calm-tables-verdict ts xs ps = (record { off = grind (arith, tells) }, record { off = grind (arith, tells) })
@@ -101,14 +97,6 @@ pub calm-intermediary-verdict : (r : List Listed) (day : ℕ) (k : Kind) (n : �
 unfolding intermediary-verdict
 calm-intermediary-verdict r day k n = (record { off = grind (arith, tells) }, record { off = grind (arith, tells) })
 
-pub calm-leg-tied-verdict : (r : List Listed) (ts : List Trade) (x : Intermediation) (place : ℕ) (w : Side) → Calm (leg-tied-verdict r ts x place w)
-unfolding leg-tied-verdict
-calm-leg-tied-verdict r ts x place w = (record { off = grind (arith, tells) }, record { off = grind (arith, tells) })
-
-pub calm-leg-opposite-verdict : (ts : List Trade) (x : Intermediation) (place : ℕ) (w : Side) → Calm (leg-opposite-verdict ts x place w)
-unfolding leg-opposite-verdict
-calm-leg-opposite-verdict ts x place w = (record { off = grind (arith, tells) }, record { off = grind (arith, tells) })
-
 pub calm-sides-verdict : (ts : List Trade) (x : Intermediation) → Calm (sides-verdict ts x)
 unfolding sides-verdict
 calm-sides-verdict ts x = (record { off = grind (arith, tells) }, record { off = grind (arith, tells) })
@@ -122,9 +110,9 @@ unfolding closing-verdict
 calm-closing-verdict day q = (record { off = grind (arith, tells) }, record { off = grind (arith, tells) })
 
 pub calm-entries-fields : (place : ℕ) (es : List Entry) → Calm (entries-fields place es)
-unfolding entries-fields
+unfolding entries-fields entry-fields
 calm-entries-fields place [] = calm-none
-calm-entries-fields place (e ∷ es) = calm-turns _ _ (calm-entry-fields place e) (calm-entries-fields (place + 3) es)
+calm-entries-fields place (e ∷ es) = let h = calm-entries-fields (place + 3) es in (record { off = grind (arith, tells, h .0 .off) }, record { off = grind (arith, tells, h .1 .off) })
 
 pub calm-entries : (r : List Listed) (day caller : ℕ) (w : Side) (t : Trade) (place : ℕ) (es : List Entry) → Calm (entries-verdict r day caller w t place es)
 unfolding entries-verdict entry-verdict
@@ -142,12 +130,12 @@ unfolding completed-verdict
 calm-completed r s q = calm-numbers (completed r s q) (s .selic) (s .control) (s .pairs)
 
 pub calm-ties : (r : List Listed) (ts : List Trade) (x : Intermediation) → Calm (ties-verdict r ts x)
-unfolding ties-verdict
-calm-ties r ts x = (legs 9 x (leg-tied-verdict r ts x) (λ p w. calm-leg-tied-verdict r ts x p w .0), legs 30 x (leg-tied-verdict r ts x) (λ p w. calm-leg-tied-verdict r ts x p w .1))
+unfolding ties-verdict leg-tied-verdict
+calm-ties r ts x = (record { off = grind (arith, tells) }, record { off = grind (arith, tells) })
 
 pub calm-opposites : (ts : List Trade) (x : Intermediation) → Calm (opposites-verdict ts x)
-unfolding opposites-verdict
-calm-opposites ts x = (legs 9 x (leg-opposite-verdict ts x) (λ p w. calm-leg-opposite-verdict ts x p w .0), legs 30 x (leg-opposite-verdict ts x) (λ p w. calm-leg-opposite-verdict ts x p w .1))
+unfolding opposites-verdict leg-opposite-verdict
+calm-opposites ts x = (record { off = grind (arith, tells) }, record { off = grind (arith, tells) })
 
 pub calm-fields : (q : Request) → Calm (fields-verdict q)
 unfolding fields-verdict capture-fields party-fields cancel-fields inclusion-fields side-fields intermediation-fields leg-fields call-fields closing-fields
