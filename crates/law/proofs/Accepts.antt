@@ -2,7 +2,7 @@
 use Rattle.keyed.proofs.Words.{Bool, true, false, not, _&&_, cond, List, [], _∷_, map, ⊎-elim, _≡_, refl, sym, ap, ap₂, subst, _∙_, ℕ, _+_, _≤_, eqb, length, cases-eq, eq-eqb, both-ways, and-parts, and-from, Some, None}
 use Rattle.law.proofs.Subject.{numbers, Intermediation, Side, Buyer, Seller, Terms, or-else, is-some, any, find, Listed, Inclusion, IntermediationCall, NewIntermediation, NewTrade, Request, Capture, Cancel, Include, Remove, Confirm, Intermediate, ConfirmIntermediation, ExcludeIntermediation, Close, SideCall, is-confirmed, emptied, confirmed, id, no-intermediation, any-leg, both-legs, number, allocation, at-side, captured, alike, AllocationState, Empty, Confirmed, KeptEntry, Trade}
 use Rattle.keyed.proofs.Keys.{rises-changed, rises-entered}
-use Rattle.keyed.proofs.Lists.{none-by, none-some, some-same}
+use Rattle.keyed.proofs.Lists.{none-by}
 use Rattle.rows.proofs.Sides.{alike-parts, filled-state, filled-tie}
 use Rattle.rows.specs.Legs.{leg as leg-of}
 use Rattle.rows.specs.declared.row.AllocationState.the-variants.{Allocated}
@@ -17,6 +17,7 @@ use Rattle.law.proofs.Books.{Confirmed-hold, any-leg-is, halves-of, leg-case, 
 use Rattle.law.proofs.Bridge.{as-bought, as-sold, only-side, side-view, sides-again, entered-view, captured-view}
 use Rattle.law.proofs.Chained.{length-line, none-line}
 use Rattle.law.proofs.Completes.{Confirming, completed-sound}
+use Rattle.law.proofs.Confirmers.{Confirmer, confirmer, including, intermediating, two-sides, one-side}
 use Rattle.law.proofs.Excluding.{cancel-sound, exclude-sound}
 use Rattle.law.proofs.Kept.{sides-kept, captured-kept, link-kept, bought-live, sold-live, nothing-sound}
 use Rattle.law.proofs.Opens.{num-buyer, num-seller, side-alone}
@@ -42,8 +43,8 @@ module _ (s : State) (g : Sound s) where
     weak-side x weak = sides-kept (view s) (g .seen) (as-bought n w) (as-sold n w) x weak (leg-case (λ k. live (view s) k ≡ true) n w live-one) (num-a w (f .unsure)) (num-c w (f .unsure))
 
     -- confirmed in a sound book that shows the rest as it is now
-    one-side : (p : State) (v : View) → Seen v → Not0 n → v .present ≡ view s .present → v .cancelled ≡ view s .cancelled → view p ≡ sides (as-bought n w) (as-sold n w) Confirmed v → Confirming p n
-    one-side p v sound z same gone shown =
+    confirmed-there : (p : State) (v : View) → Seen v → Not0 n → v .present ≡ view s .present → v .cancelled ≡ view s .cancelled → view p ≡ sides (as-bought n w) (as-sold n w) Confirmed v → Confirming p n
+    confirmed-there p v sound z same gone shown =
         let alive : live v n ≡ true = ap₂ (λ (a b : ℕ → Bool). a n && not (b n)) same gone ∙ live-one in
         record {
           base = v;
@@ -81,7 +82,7 @@ module _ (s : State) (g : Sound s) where
   pub confirm-conf : (r : List Listed) (q : SideCall) → Confirms r s q → Confirming (placed r s (Confirm q)) (q .trade)
   unfolding placed
   confirm-conf r q p =
-      one-side (q .participant) (q .side) (q .trade) (p .free) (placed r s (Confirm q)) (view s) (g .seen) (p .number-is) refl refl
+      confirmed-there (q .participant) (q .side) (q .trade) (p .free) (placed r s (Confirm q)) (view s) (g .seen) (p .number-is) refl refl
       (side-view (q .side) (q .trade) confirmed (s .trades .rows) (s .intermediations .rows) (s .pairs .rows) (λ _. p .free .trade .here) (none0 s g) Confirmed refl refl)
 
   confirm-sound : (r : List Listed) (q : SideCall) → Confirms r s q → Confirmed-hold r s (Confirm q) → Sound (effect r s (Confirm q))
@@ -105,7 +106,7 @@ module _ (s : State) (g : Sound s) where
   include-conf r q p now =
       let a = as-bought (q .trade) (q .side) in
       let c = as-sold (q .trade) (q .side) in
-      one-side (q .participant) (q .side) (q .trade) (p .free) (placed r s (Include q)) (sides a c Allocated (view s)) (weak-side (q .participant) (q .side) (q .trade) (p .free) Allocated refl) (p .number-is) refl refl
+      confirmed-there (q .participant) (q .side) (q .trade) (p .free) (placed r s (Include q)) (sides a c Allocated (view s)) (weak-side (q .participant) (q .side) (q .trade) (p .free) Allocated refl) (p .number-is) refl refl
       (include-shown r q p ∙ ap (λ b. sides a c (cond b Confirmed Allocated) (view s)) now ∙ sym (sides-again a c Confirmed Allocated (view s)))
 
   include-sound : (r : List Listed) (q : Inclusion) → Includes r s q → Confirmed-hold r s (Include q) → Sound (effect r s (Include q))
@@ -253,20 +254,10 @@ module _ (s : State) (g : Sound s) where
 
   -- what a confirming request leaves
   pub confirming : (r : List Listed) (q : Request) → Passed r s q → (n : ℕ) → confirms-in s q ≡ Some n → Confirming (placed r s q) n
-  confirming r (Capture q) p n e = absurd (none-some n e)
-  confirming r (Cancel q) p n e = absurd (none-some n e)
-  confirming r (Include q) p n e = go (q .now) refl e
+  confirming r q p n e = go q n (confirmer s q n e) p
     where
-      go : (b : Bool) → q .now ≡ b → cond b (Some (q .trade)) None ≡ Some n → Confirming (placed r s (Include q)) n
-      go true now d = subst (Confirming (placed r s (Include q))) (some-same (q .trade) n d) (include-conf s g r q (p .own) now)
-      go false now d = absurd (none-some n d)
-  confirming r (Remove q) p n e = absurd (none-some n e)
-  confirming r (Confirm q) p n e = subst (Confirming (placed r s (Confirm q))) (some-same (q .trade) n e) (confirm-conf s g r q (p .own))
-  confirming r (Intermediate q) p n e = go (q .now) refl e
-    where
-      go : (b : Bool) → q .now ≡ b → cond b (Some (any-leg (q .intermediation))) None ≡ Some n → Confirming (placed r s (Intermediate q)) n
-      go true now d = subst (Confirming (placed r s (Intermediate q))) (some-same (any-leg (q .intermediation)) n d) (intermediate-conf s g r q (p .own) now)
-      go false now d = absurd (none-some n d)
-  confirming r (ConfirmIntermediation q) p n e = subst (Confirming (placed r s (ConfirmIntermediation q))) (some-same (any-leg (intermediation s (q .id))) n e) (confirm-both-conf s g r q (p .tables) (p .own))
-  confirming r (ExcludeIntermediation q) p n e = absurd (none-some n e)
-  confirming r (Close q) p n e = absurd (none-some n e)
+      go : (q : Request) (n : ℕ) → Confirmer s q n → Passed r s q → Confirming (placed r s q) n
+      go _ _ (including q now) p = include-conf s g r q (p .own) now
+      go _ _ (one-side q) p = confirm-conf s g r q (p .own)
+      go _ _ (intermediating q now) p = intermediate-conf s g r q (p .own) now
+      go _ _ (two-sides q) p = confirm-both-conf s g r q (p .tables) (p .own)

@@ -1,6 +1,6 @@
 -- The trades of a completed chain are rows, with the terms that the plain book has. Assumes nothing.
 use Rattle.keyed.proofs.Words.{Bool, true, false, cond, List, [], _∷_, _++_, map, ⊎-elim, _≡_, refl, sym, ap, subst, _∙_, ℕ, zero, suc, arith, eqb, length, cases-bool, cond-both, Option, Some, None}
-use Rattle.law.proofs.Subject.{Intermediation, Side, Buyer, Seller, or-else, all, is-some, Each, find, changed, Listed, Request, Capture, Cancel, Include, Remove, Confirm, Intermediate, ConfirmIntermediation, ExcludeIntermediation, Close, is-selic, other, confirmed, id, leg, number, both-confirmed, at-side, no-trade, Trade, trade-in}
+use Rattle.law.proofs.Subject.{Intermediation, Side, Buyer, Seller, or-else, all, is-some, Each, find, changed, Listed, Request, is-selic, other, confirmed, id, leg, number, both-confirmed, at-side, no-trade, Trade, trade-in}
 use lib.Dec.{leb}
 use mathlib.Core.List.{reverse, reverse-append}
 use Rattle.keyed.proofs.Keys.{row-found}
@@ -11,6 +11,7 @@ use Rattle.book.specs.Effects.{placed}
 use Rattle.book.specs.Numbering.{confirms-in, chain-confirmed, completed}
 use Rattle.book.specs.Runs.{History, Beginning}
 use Rattle.book.specs.State.{State, trade, intermediation, chain-in, chain-of}
+use Rattle.law.proofs.Confirmers.{Confirmer, confirmer, including, intermediating, one-side, two-sides}
 use Rattle.law.proofs.Events.{Kind-known}
 use Rattle.law.specs.Law.{Agrees, as-plain}
 use Rattle.law.specs.Plain.{Plain, plain, plain-number, terms-of, terms-in}
@@ -167,15 +168,13 @@ terms-changed f same k n ts = part-changed (λ t. t .terms) f (λ t. ap (λ e. e
 -- a request that may complete a chain changes no terms
 pub placed-terms : (r : List Listed) (s : State) (q : Request) (m : ℕ) → confirms-in s q ≡ Some m → (n : ℕ) → trade (placed r s q) n .terms ≡ trade s n .terms
 unfolding placed
-placed-terms r s (Capture q) m h n = let z : _≡_ {A = ℕ} 0 1 = cc in absurd (omega arith)
-placed-terms r s (Cancel q) m h n = let z : _≡_ {A = ℕ} 0 1 = cc in absurd (omega arith)
-placed-terms r s (Include q) m h n = terms-changed _ (λ t. side-terms (q .side) _ t) (q .trade) n (s .trades .rows)
-placed-terms r s (Remove q) m h n = let z : _≡_ {A = ℕ} 0 1 = cc in absurd (omega arith)
-placed-terms r s (Confirm q) m h n = terms-changed _ (λ t. side-terms (q .side) confirmed t) (q .trade) n (s .trades .rows)
-placed-terms r s (Intermediate q) m h n = terms-changed _ (λ t. refl) (q .intermediation .sold) n _ ∙ terms-changed _ (λ t. refl) (q .intermediation .bought) n (s .trades .rows)
-placed-terms r s (ConfirmIntermediation q) m h n = terms-changed (at-side Seller confirmed) (λ t. refl) (intermediation s (q .id) .sold) n _ ∙ terms-changed (at-side Buyer confirmed) (λ t. refl) (intermediation s (q .id) .bought) n (s .trades .rows)
-placed-terms r s (ExcludeIntermediation q) m h n = let z : _≡_ {A = ℕ} 0 1 = cc in absurd (omega arith)
-placed-terms r s (Close q) m h n = let z : _≡_ {A = ℕ} 0 1 = cc in absurd (omega arith)
+placed-terms r s q m h n = go q m (confirmer s q m h)
+  where
+    go : (q : Request) (m : ℕ) → Confirmer s q m → trade (placed r s q) n .terms ≡ trade s n .terms
+    go _ _ (including q now) = terms-changed _ (λ t. side-terms (q .side) _ t) (q .trade) n (s .trades .rows)
+    go _ _ (one-side q) = terms-changed _ (λ t. side-terms (q .side) confirmed t) (q .trade) n (s .trades .rows)
+    go _ _ (intermediating q now) = terms-changed _ (λ t. refl) (q .intermediation .sold) n _ ∙ terms-changed _ (λ t. refl) (q .intermediation .bought) n (s .trades .rows)
+    go _ _ (two-sides q) = terms-changed (at-side Seller confirmed) (λ t. refl) (intermediation s (q .id) .sold) n _ ∙ terms-changed (at-side Buyer confirmed) (λ t. refl) (intermediation s (q .id) .bought) n (s .trades .rows)
 
 -- nothing is completed where nothing is confirmed
 pub completes-by : (r : List Listed) (s : State) (q : Request) → confirms-in s q ≡ None → completed r s q ≡ []

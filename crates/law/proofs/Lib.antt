@@ -7,6 +7,7 @@ pub mod ChainRows
 pub mod Chained
 pub mod Completed
 pub mod Completes
+pub mod Confirmers
 pub mod Confirms
 pub mod Events
 pub mod Every

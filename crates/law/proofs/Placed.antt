@@ -1,8 +1,8 @@
 -- An accepted request leaves what is numbered, and numbers nothing before it completes a chain.
-use Rattle.keyed.proofs.Words.{Bool, true, false, cond, List, ⊎-elim, _≡_, refl, sym, ap, subst, _∙_, ℕ, arith, eqb, cond-both, cases-eq, ne-eqb, eq-eqb, both-ways, false≢true, Option, Some, None}
+use Rattle.keyed.proofs.Words.{true, false, cond, List, ⊎-elim, _≡_, refl, sym, ap, subst, _∙_, ℕ, arith, eqb, cond-both, cases-eq, ne-eqb, eq-eqb, both-ways, false≢true, Option, Some, None}
 use Rattle.law.proofs.Subject.{Intermediation, Side, Buyer, Seller, or-else, is-some, find, changed, Listed, IntermediationCall, NewIntermediation, Request, Capture, Cancel, Include, Remove, Confirm, Intermediate, ConfirmIntermediation, ExcludeIntermediation, Close, is-confirmed, emptied, confirmed, id, no-intermediation, any-leg, number, allocation, is-numbered, no-trade, at-side, captured, both-confirmed, Allocation, Trade}
 use Rattle.keyed.proofs.Keys.{row-entered, below-absent}
-use Rattle.keyed.proofs.Lists.{none-by, none-some, some-same}
+use Rattle.keyed.proofs.Lists.{none-by, none-some}
 use Rattle.rows.proofs.Sides.{side-number, side-state}
 use Rattle.chains.proofs.Walk.{Not0}
 use Rattle.chains.proofs.Walks.{put-cases}
@@ -11,6 +11,7 @@ use Rattle.book.specs.Entries.{included, intermediated}
 use Rattle.book.specs.Numbering.{confirms-in}
 use Rattle.book.specs.State.{State, trade, intermediation, at-trade}
 use Rattle.law.proofs.Books.{Sound, any-leg-is}
+use Rattle.law.proofs.Confirmers.{Confirmer, confirmer, including, intermediating, one-side, two-sides}
 use Rattle.law.proofs.Confirms.{leg-left, leg-right}
 use Rattle.law.proofs.Excluding.{excluded-is, twice-excluded, exclude-open}
 use Rattle.law.proofs.Froze.{same-self, same-path, same-then, Frozen, Fewer, frozen-then, changed-froze, changed-alike, changed-fewer, entered-froze, removed-froze}
@@ -169,24 +170,10 @@ module _ (s : State) (g : Sound s) where
 
   -- the trade whose side is confirmed was not numbered
   pub open-before : (r : List Listed) (q : Request) → Passed r s q → (n : ℕ) → confirms-in s q ≡ Some n → view s .num n ≡ false
-  open-before r (Capture q) p n e = absurd (none-some n e)
-  open-before r (Cancel q) p n e = absurd (none-some n e)
-  open-before r (Include q) p n e =
-      go (q .now) (open-side s g (q .trade) (q .side) (p .own .free .unsure)) e
+  open-before r q p n e = go q n (confirmer s q n e) p
     where
-      go : (b : Bool) → view s .num (q .trade) ≡ false → cond b (Some (q .trade)) None ≡ Some n → view s .num n ≡ false
-      go true o d = ap (view s .num) (sym (some-same (q .trade) n d)) ∙ o
-      go false o d = absurd (none-some n d)
-  open-before r (Remove q) p n e = absurd (none-some n e)
-  open-before r (Confirm q) p n e =
-      ap (view s .num) (sym (some-same (q .trade) n e)) ∙ open-side s g (q .trade) (q .side) (p .own .free .unsure)
-  open-before r (Intermediate q) p n e = go (q .now) (let o = intermediate-open s g r q (p .own) in any-open (q .intermediation) (o .0) (o .1)) e
-    where
-      go : (b : Bool) → view s .num (any-leg (q .intermediation)) ≡ false → cond b (Some (any-leg (q .intermediation))) None ≡ Some n → view s .num n ≡ false
-      go true o d = ap (view s .num) (sym (some-same (any-leg (q .intermediation)) n d)) ∙ o
-      go false o d = absurd (none-some n d)
-  open-before r (ConfirmIntermediation q) p n e =
-      let o = confirm-both-open s g r q (p .own) in
-      ap (view s .num) (sym (some-same (any-leg (intermediation s (q .id))) n e)) ∙ any-open (intermediation s (q .id)) (o .0) (o .1)
-  open-before r (ExcludeIntermediation q) p n e = absurd (none-some n e)
-  open-before r (Close q) p n e = absurd (none-some n e)
+      go : (q : Request) (n : ℕ) → Confirmer s q n → Passed r s q → view s .num n ≡ false
+      go _ _ (including q now) p = open-side s g (q .trade) (q .side) (p .own .free .unsure)
+      go _ _ (one-side q) p = open-side s g (q .trade) (q .side) (p .own .free .unsure)
+      go _ _ (intermediating q now) p = let o = intermediate-open s g r q (p .own) in any-open (q .intermediation) (o .0) (o .1)
+      go _ _ (two-sides q) p = let o = confirm-both-open s g r q (p .own) in any-open (intermediation s (q .id)) (o .0) (o .1)

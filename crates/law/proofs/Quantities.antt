@@ -1,6 +1,6 @@
 -- The entries that a confirming request leaves are positive. Assumes nothing.
 use Rattle.keyed.proofs.Words.{Bool, true, false, cond, _&&_, _||_, List, [], _∷_, map, inl, inr, _≡_, refl, sym, ap, subst, _∙_, ℕ, _<_, arith, eqb, take, and-parts, or-cases, Some}
-use Rattle.law.proofs.Subject.{in-range, numbers-or-none, numbers, quantities, Side, Buyer, Seller, or-else, all, Each, find, changed, Listed, Request, Capture, Cancel, Include, Remove, Confirm, Intermediate, ConfirmIntermediation, ExcludeIntermediation, Close, held, is-empty, confirmed, entries-held, good-trade, id, leg, number, allocation, at-side, no-trade, Allocation, KeptEntry, Trade}
+use Rattle.law.proofs.Subject.{in-range, numbers-or-none, numbers, quantities, Side, Buyer, Seller, or-else, all, Each, find, changed, Listed, Request, held, is-empty, confirmed, entries-held, good-trade, id, leg, number, allocation, at-side, no-trade, Allocation, KeptEntry, Trade}
 use Rattle.fields.specs.Ranges.{entry-counts}
 use Rattle.keyed.proofs.Keys.{row-found}
 use Rattle.rows.proofs.Sides.{held-confirmed, held-filled}
@@ -12,6 +12,7 @@ use Rattle.book.specs.Entries.{whole-entry, kept-entry, entries-of}
 use Rattle.book.specs.Numbering.{confirms-in}
 use Rattle.book.specs.State.{State, trade, intermediation}
 use Rattle.law.proofs.ChainRows.{part-changed}
+use Rattle.law.proofs.Confirmers.{Confirmer, confirmer, including, intermediating, one-side, two-sides}
 use Rattle.law.proofs.Fair.{entries-kept}
 use Rattle.law.proofs.Passed.{Passed, Tables, at-least, leg-is-there}
 
@@ -86,24 +87,20 @@ confirmed-positive d e h = subst (λ l. Positive (map (λ x. x .entry) l)) (sym 
 
 -- ── The requests that confirm ──
 
--- what a request that may complete a chain places is sound
-pub placed-sound : (r : List Listed) (s : State) (q : Request) (m : ℕ) → Passed r s q → confirms-in s q ≡ Some m → Each Sound-trade (placed r s q .trades .rows)
+by-confirmer : (r : List Listed) (s : State) (q : Request) (m : ℕ) → Passed r s q → Confirmer s q m → Each Sound-trade (placed r s q .trades .rows)
 unfolding placed
-placed-sound r s (Capture q) m e c = let z : _≡_ {A = ℕ} 0 1 = cc in absurd (omega arith)
-placed-sound r s (Cancel q) m e c = let z : _≡_ {A = ℕ} 0 1 = cc in absurd (omega arith)
-placed-sound r s (Include q) m e c =
+by-confirmer r s _ _ e (including q now) =
     let es : List KeptEntry = map (kept-entry r) (entries-of q) in
     let f : Allocation → Allocation = λ d. confirmed-if (q .now) (filled es 0 d) in
     each-changed Sound-trade (at-side (q .side) f) (q .trade) (s .trades .rows)
     (λ t _ h. sound-side (q .side) f t (λ _. filled-positive (q .now) es 0 (allocation (q .side) t) (subst Positive (sym (entries-kept r (entries-of q))) (e .own .positive))) h)
     (whole-sound s (e .tables))
-placed-sound r s (Remove q) m e c = let z : _≡_ {A = ℕ} 0 1 = cc in absurd (omega arith)
-placed-sound r s (Confirm q) m e c =
+by-confirmer r s _ _ e (one-side q) =
     each-changed Sound-trade (at-side (q .side) confirmed) (q .trade) (s .trades .rows)
     (λ t found h. sound-side (q .side) confirmed t
     (confirmed-positive (allocation (q .side) t) (subst (λ u. is-empty (allocation (q .side) u .state) ≡ false) (ap (or-else no-trade) found) (e .own .holds))) h)
     (whole-sound s (e .tables))
-placed-sound r s (Intermediate q) m e c =
+by-confirmer r s _ _ e (intermediating q now) =
     joined Seller (filled-leg r (q .intermediation) (q .now) Buyer s .trades .rows) (joined Buyer (s .trades .rows) (whole-sound s (e .tables)))
   where
     joined : (w : Side) (ts : List Trade) → Each Sound-trade ts
@@ -112,7 +109,7 @@ placed-sound r s (Intermediate q) m e c =
         each-changed Sound-trade (λ t. at-side w (λ d. confirmed-if (q .now) (filled (kept-entry r (whole-entry (q .intermediation .account) t) ∷ []) (q .intermediation .id) d)) t) (leg w (q .intermediation)) ts
         (λ t _ k. sound-side w (λ d. confirmed-if (q .now) (filled (kept-entry r (whole-entry (q .intermediation .account) t) ∷ []) (q .intermediation .id) d)) t
         (λ _. filled-positive (q .now) (kept-entry r (whole-entry (q .intermediation .account) t) ∷ []) (q .intermediation .id) (allocation w t) (k .quantity, tt)) k) h
-placed-sound r s (ConfirmIntermediation q) m e c =
+by-confirmer r s _ _ e (two-sides q) =
     each-changed Sound-trade (at-side Seller confirmed) (intermediation s (q .id) .sold) once
     (λ t found h.
     let key : number t ≡ intermediation s (q .id) .sold = row-found number (intermediation s (q .id) .sold) once t found .1 in
@@ -128,5 +125,7 @@ placed-sound r s (ConfirmIntermediation q) m e c =
   where
     once : List Trade
     once = changed number (intermediation s (q .id) .bought) (at-side Buyer confirmed) (s .trades .rows)
-placed-sound r s (ExcludeIntermediation q) m e c = let z : _≡_ {A = ℕ} 0 1 = cc in absurd (omega arith)
-placed-sound r s (Close q) m e c = let z : _≡_ {A = ℕ} 0 1 = cc in absurd (omega arith)
+
+-- what a request that may complete a chain places is sound
+pub placed-sound : (r : List Listed) (s : State) (q : Request) (m : ℕ) → Passed r s q → confirms-in s q ≡ Some m → Each Sound-trade (placed r s q .trades .rows)
+placed-sound r s q m e c = by-confirmer r s q m e (confirmer s q m c)

@@ -7,10 +7,10 @@ use Rattle.book.specs.Numbering.{reply, effect, completed}
 use Rattle.book.specs.Runs.{Event, History}
 use Rattle.book.specs.State.{State}
 use Rattle.law.proofs.Fair.{Fair, last-is, fair-sides, fair-from, numbering-fair}
-use Rattle.law.proofs.TwoLegs.{confirm-both-fair, exclude-fair, cancel-fair, intermediate-fair}
 use Rattle.law.proofs.Legs.{fair-o}
 use Rattle.law.proofs.OneTrade.{next, capture-fair, include-fair, remove-fair, confirm-fair, close-fair}
 use Rattle.law.proofs.Passed.{Own, Passed}
+use Rattle.law.proofs.TwoLegs.{confirm-both-fair, exclude-fair, cancel-fair, intermediate-fair}
 use Rattle.law.specs.Law.{Agrees, Sides, Chains}
 use Rattle.law.specs.Plain.{Plain, plain, fed, Filling, last-filling}
 

@@ -1,7 +1,6 @@
 -- Every request keeps the pairs lawful.
 use Rattle.keyed.proofs.Words.{true, false, _&&_, List, [], _∷_, _++_, map, _⊎_, inl, inr, ⊎-elim, _≡_, refl, sym, ap, ap₂, subst, _∙_, ℕ, _≤_, _<_, eqb, length, cases-eq, ne-eqb, eq-eqb, both-ways, and-parts, Some}
-use Rattle.law.proofs.Subject.{numbers, Pair, Side, Buyer, Seller, is-some, those, Each, Table, find, Listed, Request, Capture, Cancel, Include, Remove, Confirm, Intermediate, ConfirmIntermediation, ExcludeIntermediation, Close, is-confirmed, total, entries-held, number, numbered, Trade, trade-in}
-use Rattle.keyed.proofs.Lists.{none-some}
+use Rattle.law.proofs.Subject.{numbers, Pair, Side, Buyer, Seller, is-some, those, Each, Table, find, Listed, Request, is-confirmed, total, entries-held, number, numbered, Trade, trade-in}
 use Rattle.rows.proofs.Sides.{confirmed-filled, some-entries}
 use Rattle.chains.proofs.Matches.{all-name}
 use Rattle.chains.proofs.Ties.{first-is}
@@ -18,6 +17,7 @@ use Rattle.law.proofs.ChainRows.{Found}
 use Rattle.law.proofs.Chained.{tie-at, ahead, trade-number}
 use Rattle.law.proofs.Completed.{paired-after, at-confirmed, final-last}
 use Rattle.law.proofs.Completes.{Confirming, conf-half, conf-there, conf-walk, conf-none, conf-here, conf-open, conf-line, conf-first, numbering-view}
+use Rattle.law.proofs.Confirmers.{Confirmer, confirmer, including, intermediating, one-side, two-sides}
 use Rattle.law.proofs.Events.{Unnumbered}
 use Rattle.law.proofs.Fair.{Adds}
 use Rattle.law.proofs.Froze.{Same, same-self, same-then, Frozen, frozen-then, changed-alike, same-next, stays, was-full}
@@ -44,15 +44,13 @@ ends-hold p sound adds m z c =
 -- ── A request that may complete a chain has numbers enough ──
 
 pub enough : (r : List Listed) (s : State) (q : Request) → Passed r s q → (n : ℕ) → confirms-in s q ≡ Some n → Enough r s q
-enough r s (Capture q) e n c = absurd (none-some n c)
-enough r s (Cancel q) e n c = absurd (none-some n c)
-enough r s (Include q) e n c = e .own .enough
-enough r s (Remove q) e n c = absurd (none-some n c)
-enough r s (Confirm q) e n c = e .own .enough
-enough r s (Intermediate q) e n c = e .own .enough
-enough r s (ConfirmIntermediation q) e n c = e .own .enough
-enough r s (ExcludeIntermediation q) e n c = absurd (none-some n c)
-enough r s (Close q) e n c = absurd (none-some n c)
+enough r s q e n c = go q n (confirmer s q n c) e
+  where
+    go : (q : Request) (n : ℕ) → Confirmer s q n → Passed r s q → Enough r s q
+    go _ _ (including q now) e = e .own .enough
+    go _ _ (one-side q) e = e .own .enough
+    go _ _ (intermediating q now) e = e .own .enough
+    go _ _ (two-sides q) e = e .own .enough
 
 -- ── Numbering leaves the parts ──
 

@@ -1,7 +1,7 @@
 -- The book seen by numbers: what stands at each trade and at each intermediation.
 use Rattle.keyed.proofs.Words.{Bool, true, false, not, _&&_, cond, List, [], _++_, _≡_, ℕ, eqb}
-use Rattle.chains.proofs.Walk.{put, Not0, far, whole, Pair, joined, Half, Numbered}
 use Rattle.law.proofs.Subject.{Kind, Selic, is-confirmed, AllocationState, Empty}
+use Rattle.chains.proofs.Walk.{put, Not0, far, whole, Pair, joined, Half, Numbered}
 
 abbrev pub sure : AllocationState → Bool
 sure x = is-confirmed x
