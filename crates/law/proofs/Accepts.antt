@@ -1,6 +1,6 @@
 -- Every accepted request keeps the book sound.
 use Rattle.keyed.proofs.Words.{Bool, true, false, not, _&&_, cond, List, [], _∷_, map, ⊎-elim, _≡_, refl, sym, ap, ap₂, subst, _∙_, ℕ, _+_, _≤_, eqb, length, cases-eq, eq-eqb, both-ways, and-parts, and-from, Some, None}
-use Rattle.law.proofs.Subject.{numbers, Intermediation, Side, Buyer, Seller, Terms, or-else, is-some, any, find, Listed, Inclusion, IntermediationCall, NewIntermediation, NewTrade, Request, Capture, Cancel, Include, Remove, Confirm, Intermediate, ConfirmIntermediation, ExcludeIntermediation, Close, SideCall, is-confirmed, emptied, confirmed, id, no-intermediation, any-leg, both-legs, number, allocation, at-side, captured, alike, AllocationState, Empty, Confirmed, KeptEntry, Trade}
+use Rattle.law.proofs.Subject.{numbers, Intermediation, Side, Buyer, Seller, Terms, or-else, is-some, any, find, Listed, Inclusion, IntermediationCall, NewIntermediation, NewTrade, Request, Capture, Cancel, Include, Remove, Confirm, Intermediate, ConfirmIntermediation, ExcludeIntermediation, Close, SideCall, is-confirmed, emptied, confirmed, id, no-intermediation, any-leg, both-legs, number, allocation, at-side, captured, alike, AllocationState, Empty, Confirmed, KeptEntry, Trade, cancelled, placed, whole-entry, kept-entry, entries-of, included, intermediated, numbers-in, confirms-in, completed, effect, State, trade, intermediation}
 use Rattle.keyed.proofs.Keys.{rises-changed, rises-entered}
 use Rattle.keyed.proofs.Lists.{none-by}
 use Rattle.rows.proofs.Sides.{alike-parts, filled-state, filled-tie}
@@ -8,11 +8,6 @@ use Rattle.rows.specs.Legs.{leg as leg-of}
 use Rattle.rows.specs.declared.row.AllocationState.the-variants.{Allocated}
 use Rattle.chains.proofs.Walk.{put, Not0, count}
 use Rattle.chains.proofs.Walks.{put-at, member}
-use Rattle.book.specs.Effects.{cancelled, placed}
-use Rattle.book.specs.Entries.{whole-entry, kept-entry, entries-of, included, intermediated}
-use Rattle.book.specs.Joining.{numbers-in}
-use Rattle.book.specs.Numbering.{confirms-in, completed, effect}
-use Rattle.book.specs.State.{State, trade, intermediation}
 use Rattle.law.proofs.Books.{Confirmed-hold, any-leg-is, halves-of, leg-case, not0-pos, numbers-are, side-keys, side-leg-is, sold-case, some-leg, there-of, walk-in, with-keys, Sound, legged, none0, finish}
 use Rattle.law.proofs.Bridge.{as-bought, as-sold, only-side, side-view, sides-again, entered-view, captured-view}
 use Rattle.law.proofs.Chained.{length-line, none-line}

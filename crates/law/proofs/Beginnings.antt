@@ -1,10 +1,7 @@
 use Rattle.keyed.proofs.Words.{true, List, [], _∷_, _≡_, refl, ℕ, _≤_, arith, length}
-use Rattle.law.proofs.Subject.{Side, Buyer, Seller, Each, entries-held, allocation, alike}
+use Rattle.law.proofs.Subject.{Side, Buyer, Seller, Each, entries-held, allocation, alike, Beginning, begun, trade, Agrees, Sides, Chains, Pairs, Chain, Linked, None-twice, plain, last-filling, filling-entries, given, written-since}
 use mathlib.Core.Bool.{false≢true}
-use Rattle.book.specs.Runs.{Beginning, begun}
-use Rattle.book.specs.State.{trade}
-use Rattle.law.specs.Law.{Beginning-lawful, Agrees, Sides, Chains, Pairs, Chain, Linked, None-twice}
-use Rattle.law.specs.Plain.{plain, last-filling, filling-entries, given, written-since}
+use Rattle.law.specs.Law.{Beginning-lawful}
 
 agrees : (b : Beginning) → Agrees (plain (b .day) []) (begun b .state)
 unfolding plain

@@ -1,13 +1,9 @@
 -- What a sound book is, and what is known of one.
 use Rattle.keyed.proofs.Words.{Bool, true, false, not, _||_, cond, List, [], _∷_, ⊎-elim, _≡_, refl, sym, ap, _∙_, ℕ, _≤_, _<_, arith, eqb, length, cases-eq, eqb-false, and-parts, or-cases, not-true, Some, None}
-use Rattle.law.proofs.Subject.{Intermediation, Side, Buyer, Seller, or-else, is-some, In, Table, find, changed, rises-above, Listed, Request, entries-held, good-intermediation, has-leg, id, no-intermediation, any-leg, number, at-side, numbered, both-confirmed, Allocation, Trade}
+use Rattle.law.proofs.Subject.{Intermediation, Side, Buyer, Seller, or-else, is-some, In, Table, find, changed, rises-above, Listed, Request, entries-held, good-intermediation, has-leg, id, no-intermediation, any-leg, number, at-side, numbered, both-confirmed, Allocation, Trade, placed, numbers-in, confirms-in, chain-confirmed, chain-matches, issuer, all-numbered, numbering, with-numbers, State, trade, intermediation}
 use Rattle.keyed.proofs.Keys.{rises-changed, row-found}
 use Rattle.keyed.proofs.Lists.{some-of, all-in}
 use Rattle.chains.proofs.Walk.{Not0, Walk, Half}
-use Rattle.book.specs.Effects.{placed}
-use Rattle.book.specs.Joining.{numbers-in}
-use Rattle.book.specs.Numbering.{confirms-in, chain-confirmed, chain-matches, issuer, all-numbered, numbering, with-numbers}
-use Rattle.book.specs.State.{State, trade, intermediation}
 use Rattle.law.proofs.Bridge.{as-bought, as-sold}
 use Rattle.law.proofs.Chained.{tie-at, leg-at, chain-is, numbers-from}
 use Rattle.law.proofs.Completes.{Confirming, completed-sound}

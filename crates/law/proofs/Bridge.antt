@@ -1,6 +1,6 @@
 -- What each change of the tables shows by number.
 use Rattle.keyed.proofs.Words.{Bool, true, false, List, ⊎-elim, _≡_, refl, sym, ap, _∙_, ℕ, cases-eq, ne-eqb, eq-eqb, None, fun-ext, Option, Some, cond, eqb}
-use Rattle.law.proofs.Subject.{intermediation-in, Intermediation, Pair, Side, Buyer, Seller, Terms, or-else, is-some, find, changed, entered, removed, rises-above, emptied, id, no-intermediation, number, allocation, is-cancelled, is-numbered, no-trade, at-side, numbered, AllocationState, Empty, Trade, trade-in}
+use Rattle.law.proofs.Subject.{intermediation-in, Intermediation, Pair, Side, Buyer, Seller, Terms, or-else, is-some, find, changed, entered, removed, rises-above, emptied, id, no-intermediation, number, allocation, is-cancelled, is-numbered, no-trade, at-side, numbered, AllocationState, Empty, Trade, trade-in, cancelled}
 use Rattle.keyed.proofs.Keys.{row-entered, row-removed, still-there}
 use Rattle.rows.specs.Trades.{captured as captured-row}
 use Rattle.rows.specs.declared.row.Allocation.{Allocation as Half-row}
@@ -8,7 +8,7 @@ use Rattle.chains.proofs.Puts.{put-same}
 use Rattle.chains.proofs.Ties.{put-on}
 use Rattle.chains.proofs.Walk.{put, Not0, Walk, far, joined}
 use Rattle.chains.proofs.Walks.{put-cases, put-off, far-next, far-far, member}
-use Rattle.book.specs.Effects.{cancelled, marked as marked-row}
+use Rattle.book.specs.Effects.{marked as marked-row}
 use Rattle.law.proofs.Shown.{common, shows, Here, None0, left, made, Only, buyer-view, seller-view, both-view, same-sides, is-numbered-trade, is-void, of-chain, rows-view, trade-put}
 use Rattle.law.proofs.Views.{View, next, prev, sides, link, captured, voided, exclude, re-numbered, with-sides, with-ties}
 

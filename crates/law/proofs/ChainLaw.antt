@@ -1,17 +1,15 @@
 -- A sound book has lawful chains.
 use Rattle.keyed.proofs.Words.{true, _&&_, List, [], _∷_, inl, inr, ⊎-elim, _≡_, refl, sym, ap, subst, _∙_, ℕ, _≤_, _<_, arith, eqb, length, cases-eq, eq-eqb, and-from}
-use Rattle.law.proofs.Subject.{Intermediation, Kind, Selic, Side, Buyer, Terms, or-else, is-some, In, Each, find, id, leg, no-intermediation, number, allocation, no-trade, alike, Trade}
+use Rattle.law.proofs.Subject.{Intermediation, Kind, Selic, Side, Buyer, Terms, or-else, is-some, In, Each, find, id, leg, no-intermediation, number, allocation, no-trade, alike, Trade, State, trade, intermediation, None-twice, Link, Holder, Linked, Chains}
 use Rattle.fields.specs.declared.trade.Kind.the-variants.{Deposited, Registered}
 use Rattle.keyed.proofs.Keys.{row-found, row-in}
 use Rattle.keyed.proofs.Lists.{none-by, some-of, from-in, none-some}
 use Rattle.rows.specs.Accounts.{same-kind}
 use Rattle.chains.proofs.Walk.{Not0}
-use Rattle.book.specs.State.{State, trade, intermediation}
 use Rattle.law.proofs.Books.{Sound, halves-of, there-of, not0-pos}
 use Rattle.law.proofs.Chained.{tie-at, leg-at, leg-some, intermediation-id}
 use Rattle.law.proofs.Shown.{common, view}
 use Rattle.law.proofs.Views.{Common, next}
-use Rattle.law.specs.Law.{None-twice, Link, Holder, Linked, Chains}
 
 pub pos-not0 : (n : ℕ) → 0 < n → Not0 n
 pos-not0 n h e = absurd (omega arith)

@@ -1,20 +1,14 @@
 -- The trades of a completed chain are rows, with the terms that the plain book has. Assumes nothing.
 use Rattle.keyed.proofs.Words.{Bool, true, false, cond, List, [], _∷_, _++_, map, ⊎-elim, _≡_, refl, sym, ap, subst, _∙_, ℕ, zero, suc, arith, eqb, length, cases-bool, cond-both, Option, Some, None}
-use Rattle.law.proofs.Subject.{Intermediation, Side, Buyer, Seller, or-else, all, is-some, Each, find, changed, Listed, Request, is-selic, other, confirmed, id, leg, number, both-confirmed, at-side, no-trade, Trade, trade-in}
+use Rattle.law.proofs.Subject.{Intermediation, Side, Buyer, Seller, or-else, all, is-some, Each, find, changed, Listed, Request, is-selic, other, confirmed, id, leg, number, both-confirmed, at-side, no-trade, Trade, trade-in, Beyond, nothing, broken, tied-back, by-intermediation, beyond, onto, way, together, chain, a-trade, by-tie, tie-in, tie-of, onward, placed, confirms-in, chain-confirmed, completed, History, Beginning, State, trade, intermediation, chain-of, Agrees, as-plain, Plain, plain, plain-number, terms-of, terms-in}
 use lib.Dec.{leb}
 use mathlib.Core.List.{reverse, reverse-append}
 use Rattle.keyed.proofs.Keys.{row-found}
 use Rattle.keyed.proofs.Lists.{none-by, some-of, each-append, each-map}
 use Rattle.rows.proofs.Sides.{side-terms}
-use Rattle.chains.specs.Following.{Beyond, nothing, broken, tied-back, by-intermediation, beyond, onto, way, together, chain, a-trade, by-tie, tie-in, tie-of, onward}
-use Rattle.book.specs.Effects.{placed}
-use Rattle.book.specs.Numbering.{confirms-in, chain-confirmed, completed}
-use Rattle.book.specs.Runs.{History, Beginning}
-use Rattle.book.specs.State.{State, trade, intermediation, chain-in, chain-of}
+use Rattle.book.specs.State.{chain-in}
 use Rattle.law.proofs.Confirmers.{Confirmer, confirmer, including, intermediating, one-side, two-sides}
 use Rattle.law.proofs.Events.{Kind-known}
-use Rattle.law.specs.Law.{Agrees, as-plain}
-use Rattle.law.specs.Plain.{Plain, plain, plain-number, terms-of, terms-in}
 
 -- ── The plain book's terms ──
 

@@ -1,6 +1,6 @@
 -- In a sound book the chain that is followed is the walk.
 use Rattle.keyed.proofs.Words.{Bool, true, false, _&&_, _||_, cond, List, [], _∷_, map, ⊎-elim, _≡_, refl, sym, ap, ap₂, _∙_, ℕ, suc, eqb, length, cases-eq, cases-bool, ne-eqb, eq-eqb, Some}
-use Rattle.law.proofs.Subject.{intermediation-in, Intermediation, Side, Buyer, Seller, or-else, is-some, all, any, find, other, id, leg, no-intermediation, number, allocation, no-trade, Trade, trade-in}
+use Rattle.law.proofs.Subject.{intermediation-in, Intermediation, Side, Buyer, Seller, or-else, is-some, all, any, find, other, id, leg, no-intermediation, number, allocation, no-trade, Trade, trade-in, Beyond, beyond, by-intermediation, tied-back, onto, way, together, chain, last-of, a-trade, nothing, broken, by-tie, tie-in, tie-of, onward}
 use Rattle.std.proofs.shelf.Tests.{or-parts}
 use Rattle.keyed.proofs.Keys.{row-found}
 use Rattle.keyed.proofs.Lists.{some-of, none-by}
@@ -8,7 +8,6 @@ use Rattle.rows.proofs.Sides.{none-leg}
 use Rattle.chains.proofs.Ties.{first-is}
 use Rattle.chains.proofs.Walk.{Not0, one, far, Walk, Half, count-from, whole-from}
 use Rattle.chains.proofs.Walks.{far-is, one-stays, one-goes, turned}
-use Rattle.chains.specs.Following.{Beyond, beyond, by-intermediation, tied-back, onto, way, together, chain, last-of, a-trade, nothing, broken, by-tie, tie-in, tie-of, onward}
 
 abbrev pub tie-at : List Trade → Side → ℕ → ℕ
 tie-at ts w n = allocation w (trade-in ts n) .tie

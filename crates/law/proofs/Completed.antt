@@ -1,23 +1,16 @@
 -- The pairs of a completed chain are as the law asks. Assumes nothing.
 use Rattle.keyed.proofs.Words.{true, false, cond, List, [], _∷_, _++_, map, _≡_, refl, sym, ap, subst, _∙_, ℕ, _<_, _≤_, arith, length, and-parts, Option, Some, None}
-use Rattle.law.proofs.Subject.{Side, Buyer, Seller, or-else, Each, Table, find, changed-in, is-empty, is-confirmed, total, entries-held, number, allocation, both-confirmed, alike, numbered, no-trade, Trade, all, trade-in}
+use Rattle.law.proofs.Subject.{Side, Buyer, Seller, or-else, Each, Table, find, changed-in, is-empty, is-confirmed, total, entries-held, number, allocation, both-confirmed, alike, numbered, no-trade, Trade, all, trade-in, last-of, Paired, all-numbered, numbering, chain-matches, by-selic, issuer, new-pairs, History, Beginning, State, trade, Sides, Linked, Chains, final, begun-for, given}
 use mathlib.Core.Bool.{false≢true}
 use Rattle.keyed.proofs.Keys.{each-row}
 use Rattle.keyed.proofs.Lists.{each-map}
 use Rattle.rows.proofs.Sides.{alike-parts, confirmed-filled, some-entries}
 use Rattle.chains.proofs.Matches.{Level, pairs-paired}
-use Rattle.chains.specs.Following.{last-of}
-use Rattle.chains.specs.Paired.{Paired}
-use Rattle.book.specs.Numbering.{all-numbered, numbering, chain-matches, by-selic, issuer, new-pairs}
-use Rattle.book.specs.Runs.{History, Beginning}
-use Rattle.book.specs.State.{State, trade}
 use Rattle.law.proofs.ChainRows.{Found, part-changed}
 use Rattle.law.proofs.Events.{Unnumbered}
 use Rattle.law.proofs.Histories.{Issued, begun-before}
 use Rattle.law.proofs.PairLaw.{Full}
 use Rattle.law.proofs.Quantities.{Sound-trade, each-changed}
-use Rattle.law.specs.Law.{Sides, Linked, Chains, final, begun-for}
-use Rattle.law.specs.Plain.{given}
 
 -- ── Numbering changes states alone ──
 

@@ -1,16 +1,14 @@
 -- A call that confirms leaves the book sound: a chain that it completes is numbered.
 use Rattle.keyed.proofs.Words.{true, false, cond, List, [], _∷_, _++_, map, inl, inr, ⊎-elim, _≡_, refl, sym, ap, ap₂, subst, fun-ext, _∙_, ℕ, zero, suc, _+_, _≤_, _<_, arith, length, cases-eq, cases-bool, ne-eqb, eq-eqb, and-parts, not-true, false≢true, Some, None}
-use Rattle.law.proofs.Subject.{intermediation-in, Entry, Intermediation, Pair, Side, Buyer, Seller, or-else, is-some, all, Table, find, changed, entries-held, number, numbered, both-confirmed, Confirmed, Trade, trade-in}
+use Rattle.law.proofs.Subject.{intermediation-in, Entry, Intermediation, Pair, Side, Buyer, Seller, or-else, is-some, all, Table, find, changed, entries-held, number, numbered, both-confirmed, Confirmed, Trade, trade-in, last-of, matched, if-all-confirmed, chain-confirmed, chain-matches, issuer, new-pairs, all-numbered, numbering, with-numbers, State, chain-of, trade}
 use mathlib.Core.List.{map-append}
 use Rattle.keyed.proofs.Keys.{row-past}
 use Rattle.keyed.proofs.Lists.{none-by, none-some}
 use Rattle.chains.proofs.Walk.{put, Not0, Walk, Half, Among, Pair as Ends, pair}
 use Rattle.chains.proofs.Walks.{put-cases, far-not0, far-keeps, far-far, far-across, whole-parts, whole-any, turned}
-use Rattle.chains.specs.Following.{first-of, last-of}
-use Rattle.chains.specs.Pairing.{matched, matches, given-numbers}
+use Rattle.chains.specs.Following.{first-of}
+use Rattle.chains.specs.Pairing.{matches, given-numbers}
 use Rattle.chains.specs.declared.pairing.Match.{Match}
-use Rattle.book.specs.Numbering.{if-all-confirmed, chain-confirmed, chain-matches, issuer, new-pairs, all-numbered, numbering, with-numbers}
-use Rattle.book.specs.State.{State, chain-of, trade}
 use Rattle.law.proofs.Bridge.{numbered-one, marked}
 use Rattle.law.proofs.Chained.{tie-at, leg-at, line, chain-is, all-line, last-line, trade-number}
 use Rattle.law.proofs.Confirms.{leg-left, leg-right, part-kept, whole-kept}

@@ -1,9 +1,7 @@
 -- The requests that confirm a side, and a trade of the chain in which they do.
 use Rattle.keyed.proofs.Words.{Bool, None, Some, cond, false, refl, subst, true, ℕ, _≡_}
-use Rattle.law.proofs.Subject.{Cancel, Capture, Close, Confirm, ConfirmIntermediation, ExcludeIntermediation, Include, Inclusion, Intermediate, IntermediationCall, NewIntermediation, Remove, Request, SideCall, any-leg}
+use Rattle.law.proofs.Subject.{Cancel, Capture, Close, Confirm, ConfirmIntermediation, ExcludeIntermediation, Include, Inclusion, Intermediate, IntermediationCall, NewIntermediation, Remove, Request, SideCall, any-leg, confirms-in, State, intermediation}
 use Rattle.keyed.proofs.Lists.{none-some, some-same}
-use Rattle.book.specs.Numbering.{confirms-in}
-use Rattle.book.specs.State.{State, intermediation}
 
 pub data Confirmer (s : State) : Request → ℕ → Type 0 where
   including : (q : Inclusion) → q .now ≡ true → Confirmer s (Include q) (q .trade)

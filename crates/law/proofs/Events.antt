@@ -1,16 +1,10 @@
 -- What every request keeps of the pairs that needs no chains: the rows, the answers, the numbers. Assumes nothing.
 use Rattle.keyed.proofs.Words.{false, cond, true≢false, List, [], _∷_, _++_, _≡_, refl, sym, ap, subst, _∙_, ℕ, _≤_, arith, length, take, drop, cond-both, Option, Some, None, Ok}
-use Rattle.law.proofs.Subject.{Answer, Written, Marked, Intermediation, find, Listed, Closing, Request, Capture, Cancel, Include, Remove, Confirm, Intermediate, ConfirmIntermediation, ExcludeIntermediation, Close, is-selic, id, number, both-confirmed, Trade}
+use Rattle.law.proofs.Subject.{Answer, Written, Marked, Intermediation, find, Listed, Closing, Request, Capture, Cancel, Include, Remove, Confirm, Intermediate, ConfirmIntermediation, ExcludeIntermediation, Close, is-selic, id, number, both-confirmed, Trade, matched, excluded, placed, called-off, excluded-by, marked, written, reply, completed, effect, numbering, with-numbers, chain-matches, by-selic, issuer, new-pairs, History, Beginning, Call, event, State, trade, at-trade, plain, terms-in, closes}
 use Rattle.keyed.proofs.Lists.{each-map}
 use Rattle.chains.proofs.Matches.{numbers-given, length-given, all-name}
-use Rattle.chains.specs.Pairing.{matched}
-use Rattle.book.specs.Effects.{excluded, placed, called-off, excluded-by, marked}
-use Rattle.book.specs.Numbering.{written, reply, completed, effect, numbering, with-numbers, chain-matches, by-selic, issuer, new-pairs}
-use Rattle.book.specs.Runs.{History, Beginning, Call, event}
-use Rattle.book.specs.State.{State, trade, at-trade}
 use Rattle.law.proofs.Histories.{Counted, Names-none, none-written, only-marked, wrote-new, wrote-nothing, closed}
 use Rattle.law.proofs.Passed.{Passed}
-use Rattle.law.specs.Plain.{plain, terms-in, closes}
 
 -- ── Before anything is numbered, pairs and numbers are as they were ──
 

@@ -1,12 +1,7 @@
 -- Every run is lawful.
 use Rattle.keyed.proofs.Words.{true, false, cond, _&&_, List, [], _∷_, _⊎_, inl, inr, ⊎-elim, _≡_, refl, sym, ap, subst, _∙_, ℕ, _≤_, eqb, length, cases-bool, Option, Some, None, Ok}
-use Rattle.law.proofs.Subject.{Refusal, those, Each, Listed, Request, Capture, Cancel, Include, Remove, Confirm, Intermediate, ConfirmIntermediation, ExcludeIntermediation, Close, Trade}
-use Rattle.book.specs.Effects.{placed}
-use Rattle.book.specs.Numbering.{reply, if-all-confirmed, chain-confirmed, completed, chain-matches, issuer, with-numbers, confirms-in, effect}
-use Rattle.book.specs.Runs.{History, Beginning, Call, event, rows-named, Run, stepped, ran, begun}
-use Rattle.book.specs.State.{State}
-use Rattle.book.specs.Steps.{Outcome, outcome, step}
-use Rattle.book.specs.Verdicts.{verdict}
+use Rattle.law.proofs.Subject.{Refusal, those, Each, Listed, Request, Capture, Cancel, Include, Remove, Confirm, Intermediate, ConfirmIntermediation, ExcludeIntermediation, Close, Trade, placed, reply, if-all-confirmed, chain-confirmed, completed, chain-matches, issuer, with-numbers, confirms-in, effect, History, Beginning, Call, event, rows-named, Run, stepped, ran, begun, State, outcome, step, verdict, Sides, Pairs, final, closes, plain, last-filling}
+use Rattle.book.specs.Steps.{Outcome}
 use Rattle.law.proofs.Accepts.{accepted, confirming}
 use Rattle.law.proofs.Beginnings.{beginning-lawful}
 use Rattle.law.proofs.Books.{Sound, Confirmed-hold}
@@ -26,8 +21,7 @@ use Rattle.law.proofs.Shown.{view}
 use Rattle.law.proofs.SidesKept.{Kept, placed-fair, accepted as kept-accepted, refused as kept-refused}
 use Rattle.law.proofs.Steps.{ends-hold, enough, unchanged, written, Old-pairs, old-pairs, with-numbers-frozen}
 use Rattle.law.proofs.Views.{whole-chain}
-use Rattle.law.specs.Law.{Sides, Pairs, Every-run-lawful, final}
-use Rattle.law.specs.Plain.{closes, plain, last-filling}
+use Rattle.law.specs.Law.{Every-run-lawful}
 
 -- what a run keeps
 pub record Held (b : Beginning) (h : History) (s : State) : Type 0 where

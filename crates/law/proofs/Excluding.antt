@@ -1,13 +1,10 @@
 -- An intermediation excluded, and a trade cancelled.
 use Rattle.keyed.proofs.Words.{true, false, List, ⊎-elim, _≡_, refl, sym, ap, subst, _∙_, ℕ, arith, cond-both, cases-eq, both-ways, and-parts, and-from, Option, Some, None}
-use Rattle.law.proofs.Subject.{numbers, Intermediation, Buyer, Seller, or-else, is-some, any, find, removed-in, Listed, Cancellation, IntermediationCall, Cancel, ExcludeIntermediation, emptied, id, no-intermediation, any-leg, number, at-side, both-confirmed, numbered-in}
+use Rattle.law.proofs.Subject.{numbers, Intermediation, Buyer, Seller, or-else, is-some, any, find, removed-in, Listed, Cancellation, IntermediationCall, Cancel, ExcludeIntermediation, emptied, id, no-intermediation, any-leg, number, at-side, both-confirmed, numbered-in, excluded, cancelled, placed, called-off, marked, excluded-by, completed, effect, State, trade, intermediation, with-intermediations, at-trade}
 use Rattle.keyed.proofs.Keys.{rises-changed, rises-removed, below-absent}
 use Rattle.keyed.proofs.Lists.{none-some}
 use Rattle.chains.proofs.Walk.{Not0}
 use Rattle.chains.proofs.Walks.{put-cases, member}
-use Rattle.book.specs.Effects.{excluded, cancelled, placed, called-off, marked, excluded-by}
-use Rattle.book.specs.Numbering.{completed, effect}
-use Rattle.book.specs.State.{State, trade, intermediation, with-intermediations, at-trade}
 use Rattle.law.proofs.Books.{any-leg-is, halves-of, numbers-are, side-keys, there-of, walk-in, Sound, legged, none0}
 use Rattle.law.proofs.Bridge.{excluded-view, nothing-excluded, marked-view, voided-view}
 use Rattle.law.proofs.Chained.{none-line}

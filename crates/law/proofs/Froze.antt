@@ -1,18 +1,16 @@
 -- What is numbered stays as it is.
 use Rattle.keyed.proofs.Words.{Bool, true, false, cond, List, [], _∷_, ⊎-elim, _≡_, refl, sym, ap, ap₂, subst, _∙_, ℕ, eqb, cases-eq, ne-eqb, eq-eqb, both-ways, Option, Some, None}
-use Rattle.law.proofs.Subject.{intermediation-in, Intermediation, Side, Buyer, Seller, or-else, Each, find, changed, entered, removed, entries-held, id, leg, no-intermediation, number, allocation, is-numbered, no-trade, Trade, trade-in}
+use Rattle.law.proofs.Subject.{intermediation-in, Intermediation, Side, Buyer, Seller, or-else, Each, find, changed, entered, removed, entries-held, id, leg, no-intermediation, number, allocation, is-numbered, no-trade, Trade, trade-in, State, trade, intermediation, final}
 use Rattle.keyed.proofs.Keys.{row-changed, row-entered, row-removed}
 use Rattle.keyed.proofs.Lists.{mapped}
 use Rattle.rows.proofs.Sides.{none-leg}
 use Rattle.chains.proofs.Walk.{Not0}
-use Rattle.book.specs.State.{State, trade, intermediation}
 use Rattle.law.proofs.Books.{Sound, walk-in, halves-of}
 use Rattle.law.proofs.Completed.{final-each}
 use Rattle.law.proofs.Fulls.{behind, each-behind, num-full, full-num, others-are, num-not0}
 use Rattle.law.proofs.PairLaw.{Full, Still-full}
 use Rattle.law.proofs.Shown.{view}
 use Rattle.law.proofs.Views.{next, prev, first}
-use Rattle.law.specs.Law.{final}
 
 pub record Same (t u : Trade) : Type 0 where
   pub terms : t .terms ≡ u .terms

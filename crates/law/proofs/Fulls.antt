@@ -1,17 +1,15 @@
 -- The chains that are whole and confirmed are those that are numbered, and what keeps the numbered trades keeps them.
 use Rattle.keyed.proofs.Words.{true, false, not, _&&_, cond, List, [], _∷_, ⊎-elim, _≡_, refl, sym, ap, subst, _∙_, ℕ, arith, eqb, cases-eq, cases-bool, ne-eqb, eq-eqb, both-ways, and-parts, and-from}
-use Rattle.law.proofs.Subject.{is-some, Each, find, number, both-confirmed}
+use Rattle.law.proofs.Subject.{is-some, Each, find, number, both-confirmed, State, trade, Link, Linked, Chain, final, All-confirmed}
 use Rattle.chains.proofs.Ties.{first-is}
 use Rattle.chains.proofs.Walk.{Not0, Walk, whole-from}
 use Rattle.chains.proofs.Walks.{far-is, one-stays, one-goes, turned, far-stops, whole-made}
-use Rattle.book.specs.State.{State, trade}
 use Rattle.law.proofs.Books.{Sound, walk-in}
 use Rattle.law.proofs.ChainLaw.{chains, link-next, next-link, pos-not0}
 use Rattle.law.proofs.Kept.{full-none, full-parts, full-made, absent-num}
 use Rattle.law.proofs.PairLaw.{Full}
 use Rattle.law.proofs.Shown.{view}
 use Rattle.law.proofs.Views.{next, prev, full, last}
-use Rattle.law.specs.Law.{Link, Linked, Chain, final, All-confirmed}
 
 -- the trades behind a first one
 abbrev pub behind : (ℕ → ℕ) → ℕ → List ℕ

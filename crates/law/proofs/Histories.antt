@@ -1,16 +1,12 @@
 -- One more event: the pairs written, the rows named, the numbers given. Assumes nothing.
 use Rattle.keyed.proofs.Words.{Bool, true, false, cond, _&&_, List, [], _∷_, _++_, map, append-assoc, inl, inr, _≡_, refl, sym, ap, subst, _∙_, ℕ, _+_, _-_, arith, eqb, length, take, drop, take-append-drop, and-from, cases-bool, cond-both, eqb-true, eqb-false, eq-eqb, Ok, Err}
-use Rattle.law.proofs.Subject.{Answer, Written, Marked, Refusal, Pair, those, Each, is-selic}
+use Rattle.law.proofs.Subject.{Answer, Written, Marked, Refusal, Pair, those, Each, is-selic, written, Event, History, Beginning, Call, event, rows-named, State, Pairs, plain, terms-in, given, closes, written-since}
 use Rattle.std.proofs.shelf.Lists.{take-all, drop-at}
 use Rattle.std.proofs.shelf.Tests.{and-left, and-right}
 use mathlib.Core.Bool.{Bool·beq}
 use mathlib.Core.List.{append-nil}
 use Rattle.keyed.proofs.Lists.{each-map, those-append, those-all, those-none}
-use Rattle.book.specs.Numbering.{written}
-use Rattle.book.specs.Runs.{Event, History, Beginning, Call, event, rows-named}
-use Rattle.book.specs.State.{State}
-use Rattle.law.specs.Law.{Named, All-named, Pairs}
-use Rattle.law.specs.Plain.{plain, terms-in, given, closes, written-since}
+use Rattle.law.specs.Law.{Named, All-named}
 
 -- ── The pairs of two trades ──
 

@@ -1,16 +1,12 @@
 -- One leg, or one row of the intermediations, changed.
 use Rattle.keyed.proofs.Words.{Bool, true, false, cond, not, _&&_, List, [], map, _≡_, refl, sym, ap, subst, subst₂, _∙_, ℕ, _+_, _-_, eqb, eqb-true, ne-eqb, and-parts, false≢true, Option, Some, None}
-use Rattle.law.proofs.Subject.{Intermediation, Side, Buyer, Seller, or-else, is-some, find, changed, removed, entered, removed-in, held, is-empty, emptied, confirmed, total, id, number, allocation, at-side, no-trade, Allocation, AllocationState, Empty, Confirmed, KeptEntry, Trade}
+use Rattle.law.proofs.Subject.{Intermediation, Side, Buyer, Seller, or-else, is-some, find, changed, removed, entered, removed-in, held, is-empty, emptied, confirmed, total, id, number, allocation, at-side, no-trade, Allocation, AllocationState, Empty, Confirmed, KeptEntry, Trade, excluded, cancelled, excluded-by, State, trade, at-trade, with-intermediations, as-plain, Plain, plain-number, put, side-now, gone, is-side, holds-side, Filling}
 use Rattle.std.proofs.shelf.Tests.{true≢false}
 use Rattle.keyed.proofs.Keys.{row-found, length-entered, length-removed, removed-absent, seen-put, each-changed, map-changed, changed-twice, length-changed}
 use Rattle.keyed.proofs.Lists.{none-some, none-by}
 use Rattle.keyed.specs.Rows.{entered-in}
 use Rattle.rows.proofs.Sides.{held-confirmed}
-use Rattle.book.specs.Effects.{excluded, cancelled, excluded-by}
-use Rattle.book.specs.State.{State, trade, at-trade, with-intermediations}
 use Rattle.law.proofs.Fair.{held-in, Adds, Sided, Fair, plain-number-is, by, there-left, held-kept, held-leg, adds-at, agrees-at, same-side}
-use Rattle.law.specs.Law.{as-plain}
-use Rattle.law.specs.Plain.{Plain, plain-number, put, side-now, gone, is-side, holds-side, Filling}
 
 pub none-left : (v : Side) (n : ℕ) (g : Trade → Allocation → Allocation) (ts : List Trade) (m : ℕ) → find number m ts ≡ None → find number m (changed number n (by v g) ts) ≡ None
 none-left v n g ts m e = none-by _ (there-left v n g ts m ∙ ap is-some e)

@@ -1,17 +1,12 @@
 -- Requests for one trade: a capture, an inclusion, a removal, a confirmation; and a closing.
 use Rattle.keyed.proofs.Words.{false, cond, _&&_, List, [], map, ⊎-elim, _≡_, refl, sym, ap, subst, subst₂, _∙_, ℕ, _+_, eqb, cases-eq, eqb-true, ne-eqb, eq-eqb, and-parts, Option, Some, None}
-use Rattle.law.proofs.Subject.{Answer, Side, Buyer, Seller, Terms, or-else, Each, find, entered, Listed, Closing, Inclusion, NewTrade, Request, Capture, Include, Remove, Confirm, Close, SideCall, held, is-empty, emptied, confirmed, total, number, allocation, no-trade, captured, Allocation, Empty, Confirmed, KeptEntry, Trade}
+use Rattle.law.proofs.Subject.{Answer, Side, Buyer, Seller, Terms, or-else, Each, find, entered, Listed, Closing, Inclusion, NewTrade, Request, Capture, Include, Remove, Confirm, Close, SideCall, held, is-empty, emptied, confirmed, total, number, allocation, no-trade, captured, Allocation, Empty, Confirmed, KeptEntry, Trade, placed, kept-entry, entries-of, included, State, trade, Entitled, as-plain, touched, Plain, fed, plain-number, filled-as, touch, is-side, Filling, terms-in, empties, fills}
 use Rattle.std.proofs.shelf.Tests.{true≢false}
 use Rattle.keyed.proofs.Keys.{row-entered, each-entered, length-entered, map-entered}
 use Rattle.keyed.proofs.Lists.{none-by, some-of, none-some}
 use Rattle.rows.proofs.Sides.{held-filled, held-confirmed, filled-state}
-use Rattle.book.specs.Effects.{placed}
-use Rattle.book.specs.Entries.{kept-entry, entries-of, included}
-use Rattle.book.specs.State.{State, trade}
 use Rattle.law.proofs.Fair.{held-in, Adds, Sided, sided-if, Fair, plain-number-is, held-put, held-kept, adds-at, agrees-at, terms-known, entries-kept, same-side}
 use Rattle.law.proofs.Passed.{Captures, Confirms, Includes}
-use Rattle.law.specs.Law.{Entitled, as-plain}
-use Rattle.law.specs.Plain.{touched, Plain, fed, plain-number, filled-as, touch, is-side, Filling, terms-in, empties, fills}
 
 -- the last filling after an accepted request
 abbrev pub next : Plain → (Side → ℕ → Option Filling) → List Listed → Request → Answer → Side → ℕ → Option Filling

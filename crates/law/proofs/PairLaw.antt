@@ -1,13 +1,9 @@
 -- What is said of pairs, kept by an event: it is enough to know which chains are whole and confirmed before and after. Assumes nothing.
 use Rattle.keyed.proofs.Words.{true, false, true≢false, List, [], _∷_, _++_, _⊎_, inl, inr, _≡_, refl, sym, ap, subst, _∙_, ℕ, _<_, eqb, cases-bool, and-parts, and-from, eqb-true, eq-eqb}
-use Rattle.law.proofs.Subject.{Pair, Buyer, those, is-some, Each, In, find, entries-held, both-confirmed, number}
+use Rattle.law.proofs.Subject.{Pair, Buyer, those, is-some, Each, In, find, entries-held, both-confirmed, number, Paired, History, Beginning, State, trade, Link, Linked, Chains, Chain, final, All-confirmed, pairs-of, begun-for, Pairs}
 use mathlib.Core.Bool.{false≢true}
 use Rattle.keyed.proofs.Lists.{each-map, each-append, each-in, from-in, those-none, none-those}
-use Rattle.chains.specs.Paired.{Paired}
-use Rattle.book.specs.Runs.{History, Beginning}
-use Rattle.book.specs.State.{State, trade}
 use Rattle.law.proofs.Histories.{naming, All-name, pairs-new, pairs-kept, Counted}
-use Rattle.law.specs.Law.{Link, Linked, Chains, Chain, final, All-confirmed, pairs-of, begun-for, Pairs}
 
 -- ── A chain is known by its first trade ──
 

@@ -1,6 +1,6 @@
 -- What is known of a request that was accepted: the tests that the law rests on, by name.
 use Rattle.keyed.proofs.Words.{Bool, cond, false, not, true, _||_, List, [], map, _∷_, ap, refl, subst, sym, _≡_, ℕ, _+_, _≤_, arith, eqb, length, and-parts, eqb-true, ne-eqb, not-true, false≢true, Option, None, Some}
-use Rattle.law.proofs.Subject.{in-range, numbers, quantities, numbers-or-none, Refusal, Entry, Intermediation, Side, Buyer, Seller, Terms, all, any, is-some, Each, Table, find, rises-above, Listed, account-in, tied-in, Inclusion, IntermediationCall, NewIntermediation, NewTrade, Request, Cancel, Capture, Close, Confirm, ConfirmIntermediation, ExcludeIntermediation, Include, Intermediate, Remove, SideCall, active, suits, is-confirmed, is-empty, total, good-intermediation, good-trade, any-leg, both-legs, each-leg, has-leg, id, leg, alike, allocation, is-cancelled, number, numbered-in, party, trade-in, AllocationState, Trade}
+use Rattle.law.proofs.Subject.{in-range, numbers, quantities, numbers-or-none, Refusal, Entry, Intermediation, Side, Buyer, Seller, Terms, all, any, is-some, Each, Table, find, rises-above, Listed, account-in, tied-in, Inclusion, IntermediationCall, NewIntermediation, NewTrade, Request, Cancel, Capture, Close, Confirm, ConfirmIntermediation, ExcludeIntermediation, Include, Intermediate, Remove, SideCall, active, suits, is-confirmed, is-empty, total, good-intermediation, good-trade, any-leg, both-legs, each-leg, has-leg, id, leg, alike, allocation, is-cancelled, number, numbered-in, party, trade-in, AllocationState, Trade, matched, entries-of, kept-entry, no-account, shown, capture-fields, entries-fields, entry-fields, fields-verdict, inclusion-fields, intermediation-fields, leg-fields, side-fields, apart-in, numbers-in, short-in, chain-matches, completed, issuer, State, intermediation, trade, in-turn, only-if, account-verdict, capture-verdict, completed-verdict, each-leg-verdict, empty-verdict, entries-verdict, entry-verdict, id-verdict, inclusion-verdict, intermediary-verdict, intermediation-verdict, leg-tied-verdict, leg-verdict, legs-verdict, numbers-verdict, on-side-verdict, own-verdict, side-verdict, sides-verdict, tables-verdict, ties-verdict, trade-verdict, two-legs-verdict, unnumbered-verdict, verdict, Entitled}
 use Rattle.std.proofs.shelf.Tests.{leb-true}
 use Rattle.fields.specs.Ranges.{minutes, participants}
 use Rattle.fields.specs.declared.account.Party.{Party}
@@ -11,15 +11,7 @@ use Rattle.rows.specs.InUse.{stands}
 use Rattle.rows.specs.Legs.{leg-state}
 use Rattle.chains.proofs.Matches.{Positive}
 use Rattle.chains.proofs.Walk.{Not0}
-use Rattle.chains.specs.Pairing.{matched}
-use Rattle.book.specs.Entries.{calling, entries-of, kept-entry, no-account, shown}
-use Rattle.book.specs.Fields.{capture-fields, entries-fields, entry-fields, fields-verdict, inclusion-fields, intermediation-fields, leg-fields, side-fields}
-use Rattle.book.specs.Joining.{apart-in, numbers-in, short-in}
-use Rattle.book.specs.Numbering.{chain-matches, completed, issuer}
-use Rattle.book.specs.State.{State, intermediation, trade}
-use Rattle.book.specs.Tests.{in-turn, only-if}
-use Rattle.book.specs.Verdicts.{account-verdict, capture-verdict, completed-verdict, each-leg-verdict, empty-verdict, entries-verdict, entry-verdict, id-verdict, inclusion-verdict, intermediary-verdict, intermediation-verdict, leg-tied-verdict, leg-verdict, legs-verdict, numbers-verdict, on-side-verdict, own-verdict, side-verdict, sides-verdict, tables-verdict, ties-verdict, trade-verdict, two-legs-verdict, unnumbered-verdict, verdict}
-use Rattle.law.specs.Law.{Entitled}
+use Rattle.book.specs.Entries.{calling}
 
 -- ── Verdicts ──
 

@@ -1,12 +1,9 @@
 -- The intermediations that go: those found by the ties are those that name the trade.
 use Rattle.keyed.proofs.Words.{Bool, true, false, cond, _&&_, _||_, List, [], _∷_, _⊎_, inl, inr, ⊎-elim, _≡_, refl, sym, ap, ap₂, subst, _∙_, ℕ, _<_, arith, eqb, ltb, cases-eq, ne-eqb, eq-eqb, and-parts, Option, Some, None}
-use Rattle.law.proofs.Subject.{Intermediation, Side, Buyer, Seller, or-else, those, any, In, find, changed, removed, rises-above, id, leg, number, allocation, no-trade, Empty, Trade}
+use Rattle.law.proofs.Subject.{Intermediation, Side, Buyer, Seller, or-else, those, any, In, find, changed, removed, rises-above, id, leg, number, allocation, no-trade, Empty, Trade, State, trade, Chains, Holder, PlainTrade, Plain, plain-number, put, gone, all-gone, names}
 use Rattle.keyed.proofs.Keys.{each-row, row-found, row-in, below-absent, removed-absent, removed-none, removed-swap, changed-swap}
 use Rattle.keyed.proofs.Lists.{some-same, none-some, each-in}
-use Rattle.book.specs.State.{State, trade}
 use Rattle.law.proofs.Legs.{gone-if}
-use Rattle.law.specs.Law.{Chains, Holder}
-use Rattle.law.specs.Plain.{PlainTrade, Plain, plain-number, put, gone, all-gone, names}
 
 pub those-same : {X : Type 0} (p q : X → Bool) (xs : List X) → ((x : X) → In x xs → p x ≡ q x) → those p xs ≡ those q xs
 those-same p q [] h = refl

@@ -1,15 +1,11 @@
 -- An accepted request leaves what is numbered, and numbers nothing before it completes a chain.
 use Rattle.keyed.proofs.Words.{true, false, cond, List, ⊎-elim, _≡_, refl, sym, ap, subst, _∙_, ℕ, arith, eqb, cond-both, cases-eq, ne-eqb, eq-eqb, both-ways, false≢true, Option, Some, None}
-use Rattle.law.proofs.Subject.{Intermediation, Side, Buyer, Seller, or-else, is-some, find, changed, Listed, IntermediationCall, NewIntermediation, Request, Capture, Cancel, Include, Remove, Confirm, Intermediate, ConfirmIntermediation, ExcludeIntermediation, Close, is-confirmed, emptied, confirmed, id, no-intermediation, any-leg, number, allocation, is-numbered, no-trade, at-side, captured, both-confirmed, Allocation, Trade}
+use Rattle.law.proofs.Subject.{Intermediation, Side, Buyer, Seller, or-else, is-some, find, changed, Listed, IntermediationCall, NewIntermediation, Request, Capture, Cancel, Include, Remove, Confirm, Intermediate, ConfirmIntermediation, ExcludeIntermediation, Close, is-confirmed, emptied, confirmed, id, no-intermediation, any-leg, number, allocation, is-numbered, no-trade, at-side, captured, both-confirmed, Allocation, Trade, excluded, cancelled, placed, called-off, excluded-by, marked, included, intermediated, confirms-in, State, trade, intermediation, at-trade, closes}
 use Rattle.keyed.proofs.Keys.{row-entered, below-absent}
 use Rattle.keyed.proofs.Lists.{none-by, none-some}
 use Rattle.rows.proofs.Sides.{side-number, side-state}
 use Rattle.chains.proofs.Walk.{Not0}
 use Rattle.chains.proofs.Walks.{put-cases}
-use Rattle.book.specs.Effects.{excluded, cancelled, placed, called-off, excluded-by, marked}
-use Rattle.book.specs.Entries.{included, intermediated}
-use Rattle.book.specs.Numbering.{confirms-in}
-use Rattle.book.specs.State.{State, trade, intermediation, at-trade}
 use Rattle.law.proofs.Books.{Sound, any-leg-is}
 use Rattle.law.proofs.Confirmers.{Confirmer, confirmer, including, intermediating, one-side, two-sides}
 use Rattle.law.proofs.Confirms.{leg-left, leg-right}
@@ -20,7 +16,6 @@ use Rattle.law.proofs.Opens.{num-buyer, num-seller, num-next-not, num-prev-not
 use Rattle.law.proofs.Passed.{Confirms-both, Intermediates, Passed, leg-is-there}
 use Rattle.law.proofs.Shown.{view}
 use Rattle.law.proofs.Views.{View, exclude, Sound as Seen}
-use Rattle.law.specs.Plain.{closes}
 
 pub record Leaves (s t : State) : Type 0 where
   pub frozen : Frozen s t

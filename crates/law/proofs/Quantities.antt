@@ -1,16 +1,13 @@
 -- The entries that a confirming request leaves are positive. Assumes nothing.
 use Rattle.keyed.proofs.Words.{Bool, true, false, cond, _&&_, _||_, List, [], _∷_, map, inl, inr, _≡_, refl, sym, ap, subst, _∙_, ℕ, _<_, arith, eqb, take, and-parts, or-cases, Some}
-use Rattle.law.proofs.Subject.{in-range, numbers-or-none, numbers, quantities, Side, Buyer, Seller, or-else, all, Each, find, changed, Listed, Request, held, is-empty, confirmed, entries-held, good-trade, id, leg, number, allocation, at-side, no-trade, Allocation, KeptEntry, Trade}
+use Rattle.law.proofs.Subject.{in-range, numbers-or-none, numbers, quantities, Side, Buyer, Seller, or-else, all, Each, find, changed, Listed, Request, held, is-empty, confirmed, entries-held, good-trade, id, leg, number, allocation, at-side, no-trade, Allocation, KeptEntry, Trade, placed, whole-entry, kept-entry, entries-of, confirms-in, State, trade, intermediation}
 use Rattle.fields.specs.Ranges.{entry-counts}
 use Rattle.keyed.proofs.Keys.{row-found}
 use Rattle.rows.proofs.Sides.{held-confirmed, held-filled}
 use Rattle.rows.specs.Allocations.{confirmed-if, filled}
 use Rattle.rows.specs.InUse.{good-entry, good-allocation, good-terms}
 use Rattle.chains.proofs.Matches.{Positive}
-use Rattle.book.specs.Effects.{filled-leg, placed}
-use Rattle.book.specs.Entries.{whole-entry, kept-entry, entries-of}
-use Rattle.book.specs.Numbering.{confirms-in}
-use Rattle.book.specs.State.{State, trade, intermediation}
+use Rattle.book.specs.Effects.{filled-leg}
 use Rattle.law.proofs.ChainRows.{part-changed}
 use Rattle.law.proofs.Confirmers.{Confirmer, confirmer, including, intermediating, one-side, two-sides}
 use Rattle.law.proofs.Fair.{entries-kept}

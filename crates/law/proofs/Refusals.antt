@@ -1,14 +1,10 @@
 -- On which grounds a request is not refused.
 use Rattle.keyed.proofs.Words.{Bool, false, true, cond, List, [], _∷_, ap, refl, sym, _≡_, _∙_, ℕ, _+_, arith, eqb, both-ways, eq-eqb, Option, None, Some}
-use Rattle.law.proofs.Subject.{number-of, Refusal, Entry, Intermediation, Kind, Pair, Side, Buyer, Seller, Terms, Table, Listed, Closing, Request, Cancel, Capture, Close, Confirm, ConfirmIntermediation, ExcludeIntermediation, Include, Intermediate, Remove, held, other, has-leg, allocation, AllocationState, KeptEntry, Trade}
+use Rattle.law.proofs.Subject.{number-of, Refusal, Entry, Intermediation, Kind, Pair, Side, Buyer, Seller, Terms, Table, Listed, Closing, Request, Cancel, Capture, Close, Confirm, ConfirmIntermediation, ExcludeIntermediation, Include, Intermediate, Remove, held, other, has-leg, allocation, AllocationState, KeptEntry, Trade, entries-of, shown, side-fields, capture-fields, entries-fields, entry-fields, fields-verdict, inclusion-fields, intermediation-fields, leg-fields, completed, State, in-turn, only-if, account-verdict, capture-verdict, completed-verdict, each-leg-verdict, empty-verdict, entries-verdict, entry-verdict, id-verdict, inclusion-verdict, intermediary-verdict, leg-tied-verdict, numbers-verdict, side-verdict, sides-verdict, tables-verdict, ties-verdict, unnumbered-verdict}
 use Rattle.std.proofs.shelf.Ways.{tells}
 use Rattle.fields.specs.declared.account.AccountType.{AccountType}
-use Rattle.book.specs.Entries.{entries-of, shown}
-use Rattle.book.specs.Fields.{side-fields, capture-fields, call-fields, cancel-fields, closing-fields, entries-fields, entry-fields, fields-verdict, inclusion-fields, intermediation-fields, leg-fields, party-fields}
-use Rattle.book.specs.Numbering.{completed}
-use Rattle.book.specs.State.{State}
-use Rattle.book.specs.Tests.{in-turn, only-if}
-use Rattle.book.specs.Verdicts.{account-verdict, capture-verdict, closing-verdict, completed-verdict, each-leg-verdict, empty-verdict, entries-verdict, entry-verdict, id-verdict, inclusion-verdict, intermediary-verdict, leg-opposite-verdict, leg-tied-verdict, numbers-verdict, opposite-verdict, opposites-verdict, outside-verdict, side-verdict, sides-verdict, tables-verdict, ties-verdict, unnumbered-verdict}
+use Rattle.book.specs.Fields.{call-fields, cancel-fields, closing-fields, party-fields}
+use Rattle.book.specs.Verdicts.{closing-verdict, leg-opposite-verdict, opposite-verdict, opposites-verdict, outside-verdict}
 
 -- the verdict is a refusal on the ground with this number
 abbrev pub on-ground : ℕ → Option Refusal → Bool

@@ -1,10 +1,9 @@
 -- What the rows of a book show by number.
 use Rattle.keyed.proofs.Words.{true, false, List, map, _≡_, refl, ap, fun-ext, _∙_, ℕ, Bool}
-use Rattle.law.proofs.Subject.{intermediation-in, Intermediation, Pair, Side, Buyer, Seller, Terms, is-some, find, changed, other, number, allocation, is-cancelled, is-numbered, no-trade, AllocationState, Trade, trade-in}
+use Rattle.law.proofs.Subject.{intermediation-in, Intermediation, Pair, Side, Buyer, Seller, Terms, is-some, find, changed, other, number, allocation, is-cancelled, is-numbered, no-trade, AllocationState, Trade, trade-in, State}
 use Rattle.keyed.proofs.Keys.{still-there}
 use Rattle.chains.proofs.Puts.{put-map, put-same, look-put}
 use Rattle.chains.proofs.Walk.{put, Not0, Pair as Ends, pair}
-use Rattle.book.specs.State.{State}
 use Rattle.law.proofs.Views.{View, Common, sides, with-sides, with-ties, view-of}
 
 abbrev pub common : Terms → Common

@@ -1,18 +1,12 @@
 -- Every request keeps the agreement with the plain book and the law of the sides.
 use Rattle.keyed.proofs.Words.{true, List, _∷_, _≡_, sym, ℕ, arith, Option, None, Ok, Err}
-use Rattle.law.proofs.Subject.{Refusal, Pair, Side, find, rises-above, Listed, Request, Capture, Cancel, Include, Remove, Confirm, Intermediate, ConfirmIntermediation, ExcludeIntermediation, Close, id, number}
+use Rattle.law.proofs.Subject.{Refusal, Pair, Side, find, rises-above, Listed, Request, Capture, Cancel, Include, Remove, Confirm, Intermediate, ConfirmIntermediation, ExcludeIntermediation, Close, id, number, placed, reply, effect, completed, Event, History, State, Agrees, Sides, Chains, Plain, plain, fed, Filling, last-filling}
 use Rattle.keyed.proofs.Keys.{below-absent}
-use Rattle.book.specs.Effects.{placed}
-use Rattle.book.specs.Numbering.{reply, effect, completed}
-use Rattle.book.specs.Runs.{Event, History}
-use Rattle.book.specs.State.{State}
 use Rattle.law.proofs.Fair.{Fair, last-is, fair-sides, fair-from, numbering-fair}
 use Rattle.law.proofs.Legs.{fair-o}
 use Rattle.law.proofs.OneTrade.{next, capture-fair, include-fair, remove-fair, confirm-fair, close-fair}
 use Rattle.law.proofs.Passed.{Own, Passed}
 use Rattle.law.proofs.TwoLegs.{confirm-both-fair, exclude-fair, cancel-fair, intermediate-fair}
-use Rattle.law.specs.Law.{Agrees, Sides, Chains}
-use Rattle.law.specs.Plain.{Plain, plain, fed, Filling, last-filling}
 
 -- ── What 4 says ──
 

@@ -1,11 +1,7 @@
 -- A numbered chain stays as it is until the closing.
 use Rattle.keyed.proofs.Words.{false, true, List, [], _∷_, ⊎-elim, refl, subst, sym, _≡_, _∙_, ℕ, cases-bool, Option, None, Some}
-use Rattle.law.proofs.Subject.{Refusal, Each, all}
+use Rattle.law.proofs.Subject.{Refusal, Each, all, Beginning, Call, History, Run, begun, ran, stepped, State, trade, outcome, step, verdict, closes}
 use Rattle.keyed.proofs.Lists.{each-map}
-use Rattle.book.specs.Runs.{Beginning, Call, History, Run, begun, ran, stepped}
-use Rattle.book.specs.State.{State, trade}
-use Rattle.book.specs.Steps.{outcome, step}
-use Rattle.book.specs.Verdicts.{verdict}
 use Rattle.law.proofs.Books.{Sound}
 use Rattle.law.proofs.Every.{Held, frozen-on, held-begun, held-ran, held-step, olds-kept}
 use Rattle.law.proofs.Froze.{Frozen, frozen-then, same-self, stays}
@@ -15,7 +11,6 @@ use Rattle.law.proofs.Passed.{all-passed}
 use Rattle.law.proofs.Shown.{view}
 use Rattle.law.proofs.Steps.{Old-pairs}
 use Rattle.law.specs.Further.{As-it-was, Held-as-before, Numbered-chain-stays, Stays, Closes, None-closes}
-use Rattle.law.specs.Plain.{closes}
 
 -- what is numbered in s is so in t, with the pairs that it has
 record Follows (s t : State) : Type 0 where

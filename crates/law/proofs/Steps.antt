@@ -1,15 +1,11 @@
 -- Every request keeps the pairs lawful.
 use Rattle.keyed.proofs.Words.{true, false, _&&_, List, [], _∷_, _++_, map, _⊎_, inl, inr, ⊎-elim, _≡_, refl, sym, ap, ap₂, subst, _∙_, ℕ, _≤_, _<_, eqb, length, cases-eq, ne-eqb, eq-eqb, both-ways, and-parts, Some}
-use Rattle.law.proofs.Subject.{numbers, Pair, Side, Buyer, Seller, is-some, those, Each, Table, find, Listed, Request, is-confirmed, total, entries-held, number, numbered, Trade, trade-in}
+use Rattle.law.proofs.Subject.{numbers, Pair, Side, Buyer, Seller, is-some, those, Each, Table, find, Listed, Request, is-confirmed, total, entries-held, number, numbered, Trade, trade-in, last-of, chain-matches, issuer, new-pairs, all-numbered, numbering, confirms-in, with-numbers, History, Beginning, State, trade, Sides, Pairs, final, pairs-of}
 use Rattle.rows.proofs.Sides.{confirmed-filled, some-entries}
 use Rattle.chains.proofs.Matches.{all-name}
 use Rattle.chains.proofs.Ties.{first-is}
 use Rattle.chains.proofs.Walk.{Not0, far, joined}
 use Rattle.chains.proofs.Walks.{far-stops, far-far, far-not0, member}
-use Rattle.chains.specs.Following.{last-of}
-use Rattle.book.specs.Numbering.{chain-matches, issuer, new-pairs, all-numbered, numbering, confirms-in, with-numbers}
-use Rattle.book.specs.Runs.{History, Beginning}
-use Rattle.book.specs.State.{State, trade}
 use Rattle.law.proofs.Books.{Sound, Ends-hold, walk-in}
 use Rattle.law.proofs.Bridge.{joined-yes, joined-no}
 use Rattle.law.proofs.ChainLaw.{chains}
@@ -29,7 +25,6 @@ use Rattle.law.proofs.Placed.{Leaves}
 use Rattle.law.proofs.Quantities.{Sound-trade}
 use Rattle.law.proofs.Shown.{ends, view}
 use Rattle.law.proofs.Views.{View, next, prev, first, whole-chain, numbered as numbered-view}
-use Rattle.law.specs.Law.{Sides, Pairs, final, pairs-of}
 
 -- ── The ends hold something ──
 

@@ -35,3 +35,25 @@ pub use Rattle.rows.specs.declared.row.AllocationState.{AllocationState}
 pub use Rattle.rows.specs.declared.row.AllocationState.the-variants.{Confirmed, Empty}
 pub use Rattle.rows.specs.declared.row.KeptEntry.{KeptEntry}
 pub use Rattle.rows.specs.declared.row.Trade.{Trade}
+pub use Rattle.chains.specs.Following.{Beyond, a-trade, broken, by-intermediation, by-tie, last-of, nothing, onto, onward, tie-in, tie-of, tied-back, together}
+unfoldable pub use Rattle.chains.specs.Following.{beyond, chain, way}
+pub use Rattle.chains.specs.Paired.{Paired}
+unfoldable pub use Rattle.chains.specs.Pairing.{matched}
+pub use Rattle.book.specs.Effects.{called-off, cancelled, excluded-by, marked}
+unfoldable pub use Rattle.book.specs.Effects.{excluded, placed}
+pub use Rattle.book.specs.Entries.{entries-of, included, intermediated, kept-entry, no-account, shown, whole-entry}
+unfoldable pub use Rattle.book.specs.Fields.{capture-fields, entries-fields, entry-fields, fields-verdict, inclusion-fields, intermediation-fields, leg-fields, side-fields}
+pub use Rattle.book.specs.Joining.{apart-in, numbers-in, short-in}
+pub use Rattle.book.specs.Numbering.{all-numbered, by-selic, chain-confirmed, chain-matches, confirms-in, if-all-confirmed, issuer, new-pairs, reply, with-numbers, written}
+unfoldable pub use Rattle.book.specs.Numbering.{completed, effect, numbering}
+pub use Rattle.book.specs.Runs.{Beginning, Call, Event, History, Run, begun, event, rows-named, stepped}
+unfoldable pub use Rattle.book.specs.Runs.{ran}
+pub use Rattle.book.specs.State.{State, at-trade, chain-of, intermediation, trade, with-intermediations}
+pub use Rattle.book.specs.Steps.{outcome}
+unfoldable pub use Rattle.book.specs.Steps.{step}
+pub use Rattle.book.specs.Tests.{in-turn, only-if}
+pub use Rattle.book.specs.Verdicts.{each-leg-verdict}
+unfoldable pub use Rattle.book.specs.Verdicts.{account-verdict, capture-verdict, completed-verdict, empty-verdict, entries-verdict, entry-verdict, id-verdict, inclusion-verdict, intermediary-verdict, intermediation-verdict, leg-tied-verdict, leg-verdict, legs-verdict, numbers-verdict, on-side-verdict, own-verdict, side-verdict, sides-verdict, tables-verdict, ties-verdict, trade-verdict, two-legs-verdict, unnumbered-verdict, verdict}
+pub use Rattle.law.specs.Law.{Agrees, All-confirmed, Chain, Chains, Entitled, Holder, Link, Linked, None-twice, Pairs, Sides, as-plain, begun-for, final, pairs-of}
+pub use Rattle.law.specs.Plain.{Filling, Plain, PlainTrade, all-gone, closes, empties, fed, filled-as, filling-entries, fills, gone, holds-side, is-side, leaves, names, plain-number, put, side-now, terms-in, terms-of, touch, touched}
+unfoldable pub use Rattle.law.specs.Plain.{given, last-filling, plain, written-since}

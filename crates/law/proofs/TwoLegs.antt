@@ -1,20 +1,15 @@
 -- Requests for an intermediation, and a cancellation.
 use Rattle.keyed.proofs.Words.{Bool, true, false, cond, _&&_, _||_, List, [], _∷_, map, ⊎-elim, _≡_, refl, sym, ap, ap₂, subst, _∙_, ℕ, _<_, zero, arith, eqb, cases-bool, and-parts, and-from, Option, Some, None}
-use Rattle.law.proofs.Subject.{Answer, Written, Marked, Entry, Intermediation, Side, Buyer, Seller, Terms, or-else, is-some, those, any, find, changed, removed, rises-above, Listed, account-in, tied-in, Cancellation, IntermediationCall, NewIntermediation, Cancel, Intermediate, ConfirmIntermediation, ExcludeIntermediation, active, suits, held, is-empty, confirmed, total, no-intermediation, id, leg, has-leg, number, allocation, party, no-trade, both-confirmed, Allocation, Empty, Confirmed, KeptEntry, Trade, trade-in}
+use Rattle.law.proofs.Subject.{Answer, Written, Marked, Entry, Intermediation, Side, Buyer, Seller, Terms, or-else, is-some, those, any, find, changed, removed, rises-above, Listed, account-in, tied-in, Cancellation, IntermediationCall, NewIntermediation, Cancel, Intermediate, ConfirmIntermediation, ExcludeIntermediation, active, suits, held, is-empty, confirmed, total, no-intermediation, id, leg, has-leg, number, allocation, party, no-trade, both-confirmed, Allocation, Empty, Confirmed, KeptEntry, Trade, trade-in, excluded, cancelled, placed, called-off, marked, whole-entry, kept-entry, shown, no-account, intermediated, reply, State, trade, intermediation, at-trade, as-plain, Chains, touched, Plain, plain-number, side-now, all-gone, names, fed, filled-as, holds-side, Filling, terms-in, empties, fills, leaves}
 use Rattle.keyed.proofs.Keys.{seen-kept, each-changed, map-changed, length-changed}
 use Rattle.keyed.proofs.Lists.{some-of, none-some}
 use Rattle.rows.proofs.Sides.{held-filled, filled-state, same-kinds}
-use Rattle.book.specs.Effects.{excluded, cancelled, placed, called-off, marked}
-use Rattle.book.specs.Entries.{whole-entry, kept-entry, shown, no-account, intermediated}
-use Rattle.book.specs.Numbering.{reply}
-use Rattle.book.specs.State.{State, trade, intermediation, at-trade}
 use Rattle.law.proofs.Fair.{Adds, Sided, Fair, plain-number-is, by, by-number, there-left, terms-left, terms-known}
 use Rattle.law.proofs.Legs.{none-left, fair-o, on-leg, confirm-leg, fill-leg, enter-row, gone-if, holds-if, clear, excluded-fair, excluded-zero, excluded-rows, cancelled-fair}
 use Rattle.law.proofs.OneTrade.{next}
 use Rattle.law.proofs.Passed.{Confirms-both, Intermediates, Stands, calling-is}
 use Rattle.law.proofs.Picks.{those-same, any-same, picks, picked-gone, picked-any, passes-if, one-gone, one-any, names-picks}
-use Rattle.law.specs.Law.{as-plain, Chains}
-use Rattle.law.specs.Plain.{touched, Plain, plain-number, side-now, sides-of-now, all-gone, names, fed, filled-as, holds-side, Filling, terms-in, empties, fills, leaves}
+use Rattle.law.specs.Plain.{sides-of-now}
 
 emptied-if : (b : Bool) (r : List Listed) (day : ℕ) (m : Terms) (o : Option Filling) → cond b None o ≡ touched (cond b empties leaves) r day m o
 emptied-if true r day m o = refl

@@ -1,6 +1,6 @@
 -- In a run from an empty book no chain is broken, and none of up to three trades is too long.
 use Rattle.keyed.proofs.Words.{false, not, true, _&&_, _||_, List, [], map, _∷_, ⊎-elim, inl, inr, ap, refl, subst, sym, _≡_, _∙_, ℕ, _+_, _≤_, arith, eqb, length, both-ways, cases-eq, eq-eqb, ne-eqb, and-from, Option, None, Some, Err}
-use Rattle.law.proofs.Subject.{number-of, Refusal, Intermediation, Side, Buyer, Seller, any, is-some, Each, In, find, Listed, NewIntermediation, Request, Cancel, Capture, Close, Confirm, ConfirmIntermediation, ExcludeIntermediation, Include, Intermediate, Remove, held, any-leg, both-legs, has-leg, id, leg, each-leg, allocation, number, alike, is-cancelled, trade-in, Trade}
+use Rattle.law.proofs.Subject.{number-of, Refusal, Intermediation, Side, Buyer, Seller, any, is-some, Each, In, find, Listed, NewIntermediation, Request, Cancel, Capture, Close, Confirm, ConfirmIntermediation, ExcludeIntermediation, Include, Intermediate, Remove, held, any-leg, both-legs, has-leg, id, leg, each-leg, allocation, number, alike, is-cancelled, trade-in, Trade, chain, tie-in, entries-of, kept-entry, apart-in, numbers-in, short-in, begun, State, intermediation, trade, outcome, step, intermediation-verdict, leg-verdict, legs-verdict, on-side-verdict, own-verdict, trade-verdict, two-legs-verdict, verdict, Chain}
 use Rattle.std.proofs.shelf.Tests.{le-leb}
 use Rattle.fields.specs.declared.ground.Ground.{Ground}
 use Rattle.keyed.proofs.Lists.{each-in}
@@ -9,13 +9,6 @@ use Rattle.rows.specs.Legs.{leg-holds, legs-hold}
 use Rattle.chains.proofs.Ties.{first-is}
 use Rattle.chains.proofs.Walk.{Not0}
 use Rattle.chains.proofs.Walks.{far-next}
-use Rattle.chains.specs.Following.{chain, tie-in}
-use Rattle.book.specs.Entries.{entries-of, kept-entry}
-use Rattle.book.specs.Joining.{apart-in, numbers-in, short-in}
-use Rattle.book.specs.Runs.{begun}
-use Rattle.book.specs.State.{State, intermediation, trade}
-use Rattle.book.specs.Steps.{outcome, step}
-use Rattle.book.specs.Verdicts.{intermediation-verdict, leg-verdict, legs-verdict, on-side-verdict, own-verdict, trade-verdict, two-legs-verdict, verdict}
 use Rattle.law.proofs.Books.{Sound, any-leg-is, halves-of, numbers-are, there-of, walk-in, legged}
 use Rattle.law.proofs.ChainLaw.{next-link}
 use Rattle.law.proofs.Chained.{chain-is, intermediation-id, tie-at}
@@ -27,7 +20,6 @@ use Rattle.law.proofs.Refusals.{asked, calm-capture-verdict, calm-closing-verd
 use Rattle.law.proofs.Shown.{view}
 use Rattle.law.proofs.Views.{next, prev, first as first-in}
 use Rattle.law.specs.Further.{Chain-of, Never, Never-broken, Never-too-long}
-use Rattle.law.specs.Law.{Chain}
 use Rattle.fields.specs.declared.ground.Ground.the-variants as ground
 
 -- ── 9 ──
