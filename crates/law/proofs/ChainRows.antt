@@ -1,28 +1,17 @@
 -- The trades of a completed chain are rows, with the terms that the plain book has. Assumes nothing.
 use Rattle.keyed.proofs.Words.{Bool, true, false, cond, List, [], _∷_, _++_, map, ⊎-elim, _≡_, refl, sym, ap, subst, _∙_, ℕ, zero, suc, arith, eqb, length, cases-bool, cond-both, Option, Some, None}
-use Rattle.law.proofs.Subject.{Intermediation, Side, Buyer, Seller, or-else, all, is-some, Each, find, changed, Listed, Request, is-selic, other, confirmed, id, leg, number, both-confirmed, at-side, no-trade, Trade, trade-in, Beyond, nothing, broken, tied-back, by-intermediation, beyond, onto, way, together, chain, a-trade, by-tie, tie-in, tie-of, onward, placed, confirms-in, chain-confirmed, completed, History, Beginning, State, trade, intermediation, chain-of, Agrees, as-plain, Plain, plain, plain-number, terms-of, terms-in}
+use Rattle.law.proofs.Subject.{Intermediation, Side, Buyer, Seller, or-else, all, is-some, Each, find, changed, Listed, Request, is-selic, other, confirmed, id, leg, number, both-confirmed, at-side, no-trade, Trade, trade-in, Beyond, nothing, broken, tied-back, by-intermediation, beyond, onto, way, together, chain, a-trade, by-tie, tie-in, tie-of, onward, placed, confirms-in, chain-confirmed, completed, History, Beginning, State, trade, intermediation, chain-of, Agrees, Plain, plain, terms-in}
 use lib.Dec.{leb}
 use mathlib.Core.List.{reverse, reverse-append}
-use Rattle.keyed.proofs.Keys.{row-found}
+use Rattle.keyed.proofs.Keys.{row-found, seen-kept}
 use Rattle.keyed.proofs.Lists.{none-by, some-of, each-append, each-map}
 use Rattle.rows.proofs.Sides.{side-terms}
 use Rattle.book.specs.State.{chain-in}
 use Rattle.law.proofs.Confirmers.{Confirmer, confirmer, including, intermediating, one-side, two-sides}
 use Rattle.law.proofs.Events.{Kind-known}
+use Rattle.law.proofs.Fair.{terms-known}
 
 -- ── The plain book's terms ──
-
-row-plain : (n : ℕ) (ts : List Trade) → terms-of (find plain-number n (map as-plain ts)) ≡ or-else no-trade (find number n ts) .terms
-row-plain n [] = refl
-row-plain n (t ∷ ts) = go (row-plain n ts) (eqb (number t) n)
-  where
-    go : terms-of (find plain-number n (map as-plain ts)) ≡ or-else no-trade (find number n ts) .terms
-        → (z : Bool) → terms-of (cond z (Some (as-plain t)) (find plain-number n (map as-plain ts))) ≡ or-else no-trade (cond z (Some t) (find number n ts)) .terms
-    go ih true = refl
-    go ih false = ih
-
-pub terms-agree : (p : Plain) (s : State) → Agrees p s → (n : ℕ) → terms-in p n ≡ trade s n .terms
-terms-agree p s a n = ap (λ ts. terms-of (find plain-number n ts)) (sym (a .trades)) ∙ row-plain n (s .trades .rows)
 
 -- ── Rows found ──
 
@@ -141,20 +130,7 @@ completed-found r s q = one-found (placed r s q) (confirms-in s q)
 -- a part of a row that a change keeps
 pub part-changed : {Y : Type 0} (g : Trade → Y) (f : Trade → Trade) → ((t : Trade) → number (f t) ≡ number t) → ((t : Trade) → g (f t) ≡ g t)
     → (k n : ℕ) (ts : List Trade) → g (trade-in (changed number k f ts) n) ≡ g (trade-in ts n)
-part-changed g f key same k n [] = refl
-part-changed g f key same k n (t ∷ ts) = go (part-changed g f key same k n ts) (eqb (number t) k)
-  where
-    front : (z : Bool) → g (or-else no-trade (cond z (Some (f t)) (find number n ts))) ≡ g (or-else no-trade (cond z (Some t) (find number n ts)))
-    front true = same t
-    front false = refl
-
-    behind : (us : List Trade) → g (trade-in us n) ≡ g (trade-in ts n) → (z : Bool) → g (or-else no-trade (cond z (Some t) (find number n us))) ≡ g (or-else no-trade (cond z (Some t) (find number n ts)))
-    behind us ih true = refl
-    behind us ih false = ih
-
-    go : g (trade-in (changed number k f ts) n) ≡ g (trade-in ts n) → (z : Bool) → g (trade-in (cond z (f t ∷ ts) (t ∷ changed number k f ts)) n) ≡ g (trade-in (t ∷ ts) n)
-    go ih true = ap (λ m. g (or-else no-trade (cond (eqb m n) (Some (f t)) (find number n ts)))) (key t) ∙ front (eqb (number t) n)
-    go ih false = behind (changed number k f ts) ih (eqb (number t) n)
+part-changed g f key same k n ts = seen-kept number f key no-trade g k ts n (λ x _. same x)
 
 pub terms-changed : (f : Trade → Trade) → ((t : Trade) → f t .terms ≡ t .terms) → (k n : ℕ) (ts : List Trade) → trade-in (changed number k f ts) n .terms ≡ trade-in ts n .terms
 terms-changed f same k n ts = part-changed (λ t. t .terms) f (λ t. ap (λ e. e .number) (same t)) same k n ts
@@ -183,7 +159,7 @@ completed-terms r s q p a = go (confirms-in s q) refl
     go None e = subst (Each (λ u. terms-in p (number u) ≡ u .terms)) (sym (completes-by r s q e)) tt
     go (Some m) e =
         each-map (Found (placed r s q .trades .rows)) (λ u. terms-in p (number u) ≡ u .terms)
-        (λ u f. terms-agree p s a (number u) ∙ sym (placed-terms r s q m e (number u)) ∙ ap (λ o. or-else no-trade o .terms) f)
+        (λ u f. terms-known p s a (number u) ∙ sym (placed-terms r s q m e (number u)) ∙ ap (λ o. or-else no-trade o .terms) f)
         (completed r s q) (completed-found r s q)
 
 pub kind-known : (b : Beginning) (h : History) (r : List Listed) (s : State) (q : Request) → Agrees (plain (b .day) h) s → Kind-known b h (completed r s q)

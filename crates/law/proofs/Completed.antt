@@ -2,7 +2,7 @@
 use Rattle.keyed.proofs.Words.{true, false, cond, List, [], _∷_, _++_, map, _≡_, refl, sym, ap, subst, _∙_, ℕ, _<_, _≤_, arith, length, and-parts, Option, Some, None}
 use Rattle.law.proofs.Subject.{Side, Buyer, Seller, or-else, Each, Table, find, changed-in, is-empty, is-confirmed, total, entries-held, number, allocation, both-confirmed, alike, numbered, no-trade, Trade, all, trade-in, last-of, Paired, all-numbered, numbering, chain-matches, by-selic, issuer, new-pairs, History, Beginning, State, trade, Sides, Linked, Chains, final, begun-for, given}
 use mathlib.Core.Bool.{false≢true}
-use Rattle.keyed.proofs.Keys.{each-row}
+use Rattle.keyed.proofs.Keys.{each-row, each-changed}
 use Rattle.keyed.proofs.Lists.{each-map}
 use Rattle.rows.proofs.Sides.{alike-parts, confirmed-filled, some-entries}
 use Rattle.chains.proofs.Matches.{Level, pairs-paired}
@@ -10,7 +10,7 @@ use Rattle.law.proofs.ChainRows.{Found, part-changed}
 use Rattle.law.proofs.Events.{Unnumbered}
 use Rattle.law.proofs.Histories.{Issued, begun-before}
 use Rattle.law.proofs.PairLaw.{Full}
-use Rattle.law.proofs.Quantities.{Sound-trade, each-changed}
+use Rattle.law.proofs.Quantities.{Sound-trade}
 
 -- ── Numbering changes states alone ──
 
@@ -24,7 +24,7 @@ pub numbered-sound : (c : List Trade) (t : Table Trade) → Each Sound-trade (t 
 numbered-sound [] t h = h
 numbered-sound (u ∷ c) t h =
     numbered-sound c (changed-in number (number u) numbered t)
-    (each-changed Sound-trade numbered (number u) (t .rows) (λ v _ k. record { numbered = k .numbered; quantity = k .quantity; buyer = k .buyer; seller = k .seller }) h)
+    (each-changed number Sound-trade numbered (number u) (t .rows) (λ v _ k. record { numbered = k .numbered; quantity = k .quantity; buyer = k .buyer; seller = k .seller }) h)
 
 -- ── What is said of a trade both of whose sides are confirmed ──
 

@@ -1,11 +1,11 @@
 -- The parts of the law that a request's own changes keep: agreement with the plain book, and the sides.
 use Rattle.keyed.proofs.Words.{Bool, true, false, cond, not, _&&_, List, [], _∷_, map, ⊎-elim, _≡_, refl, sym, ap, subst, _∙_, ℕ, _+_, eqb, length, cases-eq, cases-bool, eqb-true, false≢true, Option, Some, None, Ok}
-use Rattle.law.proofs.Subject.{Answer, Entry, Pair, Side, Buyer, Seller, Terms, or-else, is-some, Each, Table, find, changed, changed-in, Listed, Request, held, is-empty, total, entries-held, number, allocation, at-side, no-trade, numbered, Allocation, AllocationState, KeptEntry, Trade, trade-in, kept-entry, all-numbered, numbering, with-numbers, new-pairs, History, State, trade, at-trade, Agrees, Sides, as-plain, PlainTrade, Plain, plain, plain-number, put, side-now, touch, is-side, Filling, last-filling, filling-entries, terms-in, terms-of, leaves, touched}
+use Rattle.law.proofs.Subject.{Answer, Entry, Pair, Side, Buyer, Seller, Terms, or-else, is-some, Each, Table, find, changed, changed-in, Listed, Request, held, is-empty, total, entries-held, number, allocation, at-side, no-trade, numbered, Allocation, AllocationState, KeptEntry, Trade, trade-in, kept-entry, all-numbered, numbering, with-numbers, new-pairs, History, State, trade, at-trade, Agrees, Sides, as-plain, PlainTrade, Plain, plain, plain-number, put, side-now, touch, is-side, Filling, last-filling, filling-entries, terms-in, leaves, touched}
 use Rattle.std.proofs.shelf.Lists.{length-append}
 use Rattle.keyed.proofs.Keys.{row-map, map-changed, length-changed, seen-put, seen-kept, each-changed, each-row, row-changed-same, row-changed-other}
 use Rattle.keyed.proofs.Lists.{mapped, none-some}
 use Rattle.law.specs.Law.{Entitled-by}
-use Rattle.law.specs.Plain.{Touch}
+use Rattle.law.specs.Plain.{terms-of, Touch}
 
 -- ── What a side holds, by number ──
 

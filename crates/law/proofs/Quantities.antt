@@ -1,8 +1,8 @@
 -- The entries that a confirming request leaves are positive. Assumes nothing.
-use Rattle.keyed.proofs.Words.{Bool, true, false, cond, _&&_, _||_, List, [], _∷_, map, inl, inr, _≡_, refl, sym, ap, subst, _∙_, ℕ, _<_, arith, eqb, take, and-parts, or-cases, Some}
-use Rattle.law.proofs.Subject.{in-range, numbers-or-none, numbers, quantities, Side, Buyer, Seller, or-else, all, Each, find, changed, Listed, Request, held, is-empty, confirmed, entries-held, good-trade, id, leg, number, allocation, at-side, no-trade, Allocation, KeptEntry, Trade, placed, whole-entry, kept-entry, entries-of, confirms-in, State, trade, intermediation}
+use Rattle.keyed.proofs.Words.{Bool, true, false, cond, _&&_, _||_, List, [], _∷_, map, inl, inr, _≡_, refl, sym, ap, subst, _∙_, ℕ, _<_, arith, take, and-parts, or-cases, Some}
+use Rattle.law.proofs.Subject.{in-range, numbers-or-none, numbers, quantities, Side, Buyer, Seller, or-else, all, Each, changed, Listed, Request, held, is-empty, confirmed, entries-held, good-trade, id, leg, number, allocation, at-side, no-trade, Allocation, KeptEntry, Trade, placed, whole-entry, kept-entry, entries-of, confirms-in, State, trade, intermediation}
 use Rattle.fields.specs.Ranges.{entry-counts}
-use Rattle.keyed.proofs.Keys.{row-found}
+use Rattle.keyed.proofs.Keys.{row-found, each-changed}
 use Rattle.rows.proofs.Sides.{held-confirmed, held-filled}
 use Rattle.rows.specs.Allocations.{confirmed-if, filled}
 use Rattle.rows.specs.InUse.{good-entry, good-allocation, good-terms}
@@ -62,15 +62,6 @@ whole-sound s t = all-each (s .trades .rows) (t .trades)
 
 -- ── One row changed ──
 
-pub each-changed : (P : Trade → Type 0) (f : Trade → Trade) (n : ℕ) (ts : List Trade) → ((t : Trade) → find number n ts ≡ Some t → P t → P (f t)) → Each P ts → Each P (changed number n f ts)
-each-changed P f n [] k h = tt
-each-changed P f n (t ∷ ts) k h = go (eqb (number t) n) refl (each-changed P f n ts)
-  where
-    go : (z : Bool) → eqb (number t) n ≡ z → (((u : Trade) → find number n ts ≡ Some u → P u → P (f u)) → Each P ts → Each P (changed number n f ts))
-        → Each P (cond z (f t ∷ ts) (t ∷ changed number n f ts))
-    go true e ih = (k t (ap (λ y. cond y (Some t) (find number n ts)) e) (h .0), h .1)
-    go false e ih = (h .0, ih (λ u g. k u (ap (λ y. cond y (Some t) (find number n ts)) e ∙ g)) (h .1))
-
 -- a side changed that stays positive
 pub sound-side : (w : Side) (f : Allocation → Allocation) (t : Trade) → (Positive (entries-held (allocation w t)) → Positive (entries-held (f (allocation w t)))) → Sound-trade t → Sound-trade (at-side w f t)
 sound-side Buyer f t k h = record { numbered = h .numbered; quantity = h .quantity; buyer = k (h .buyer); seller = h .seller }
@@ -89,11 +80,11 @@ unfolding placed
 by-confirmer r s _ _ e (including q now) =
     let es : List KeptEntry = map (kept-entry r) (entries-of q) in
     let f : Allocation → Allocation = λ d. confirmed-if (q .now) (filled es 0 d) in
-    each-changed Sound-trade (at-side (q .side) f) (q .trade) (s .trades .rows)
+    each-changed number Sound-trade (at-side (q .side) f) (q .trade) (s .trades .rows)
     (λ t _ h. sound-side (q .side) f t (λ _. filled-positive (q .now) es 0 (allocation (q .side) t) (subst Positive (sym (entries-kept r (entries-of q))) (e .own .positive))) h)
     (whole-sound s (e .tables))
 by-confirmer r s _ _ e (one-side q) =
-    each-changed Sound-trade (at-side (q .side) confirmed) (q .trade) (s .trades .rows)
+    each-changed number Sound-trade (at-side (q .side) confirmed) (q .trade) (s .trades .rows)
     (λ t found h. sound-side (q .side) confirmed t
     (confirmed-positive (allocation (q .side) t) (subst (λ u. is-empty (allocation (q .side) u .state) ≡ false) (ap (or-else no-trade) found) (e .own .holds))) h)
     (whole-sound s (e .tables))
@@ -103,17 +94,17 @@ by-confirmer r s _ _ e (intermediating q now) =
     joined : (w : Side) (ts : List Trade) → Each Sound-trade ts
         → Each Sound-trade (changed number (leg w (q .intermediation)) (λ t. at-side w (λ d. confirmed-if (q .now) (filled (kept-entry r (whole-entry (q .intermediation .account) t) ∷ []) (q .intermediation .id) d)) t) ts)
     joined w ts h =
-        each-changed Sound-trade (λ t. at-side w (λ d. confirmed-if (q .now) (filled (kept-entry r (whole-entry (q .intermediation .account) t) ∷ []) (q .intermediation .id) d)) t) (leg w (q .intermediation)) ts
+        each-changed number Sound-trade (λ t. at-side w (λ d. confirmed-if (q .now) (filled (kept-entry r (whole-entry (q .intermediation .account) t) ∷ []) (q .intermediation .id) d)) t) (leg w (q .intermediation)) ts
         (λ t _ k. sound-side w (λ d. confirmed-if (q .now) (filled (kept-entry r (whole-entry (q .intermediation .account) t) ∷ []) (q .intermediation .id) d)) t
         (λ _. filled-positive (q .now) (kept-entry r (whole-entry (q .intermediation .account) t) ∷ []) (q .intermediation .id) (allocation w t) (k .quantity, tt)) k) h
 by-confirmer r s _ _ e (two-sides q) =
-    each-changed Sound-trade (at-side Seller confirmed) (intermediation s (q .id) .sold) once
+    each-changed number Sound-trade (at-side Seller confirmed) (intermediation s (q .id) .sold) once
     (λ t found h.
     let key : number t ≡ intermediation s (q .id) .sold = row-found number (intermediation s (q .id) .sold) once t found .1 in
     let full = e .own .holds Seller (leg-is-there Seller (intermediation s (q .id)) (λ z. absurd (omega (arith, h .numbered, key, z)))) in
     let same = part-changed (λ u. is-empty (u .seller .state)) (at-side Buyer confirmed) (λ u. refl) (λ u. refl) (intermediation s (q .id) .bought) (intermediation s (q .id) .sold) (s .trades .rows) in
     sound-side Seller confirmed t (confirmed-positive (t .seller) (sym (ap (λ o. is-empty (or-else no-trade o .seller .state)) found) ∙ same ∙ full)) h)
-    (each-changed Sound-trade (at-side Buyer confirmed) (intermediation s (q .id) .bought) (s .trades .rows)
+    (each-changed number Sound-trade (at-side Buyer confirmed) (intermediation s (q .id) .bought) (s .trades .rows)
     (λ t found h.
     let key : number t ≡ intermediation s (q .id) .bought = row-found number (intermediation s (q .id) .bought) (s .trades .rows) t found .1 in
     let full = e .own .holds Buyer (leg-is-there Buyer (intermediation s (q .id)) (λ z. absurd (omega (arith, h .numbered, key, z)))) in

@@ -55,5 +55,5 @@ pub use Rattle.book.specs.Tests.{in-turn, only-if}
 pub use Rattle.book.specs.Verdicts.{each-leg-verdict}
 unfoldable pub use Rattle.book.specs.Verdicts.{account-verdict, capture-verdict, completed-verdict, empty-verdict, entries-verdict, entry-verdict, id-verdict, inclusion-verdict, intermediary-verdict, intermediation-verdict, leg-tied-verdict, leg-verdict, legs-verdict, numbers-verdict, on-side-verdict, own-verdict, side-verdict, sides-verdict, tables-verdict, ties-verdict, trade-verdict, two-legs-verdict, unnumbered-verdict, verdict}
 pub use Rattle.law.specs.Law.{Agrees, All-confirmed, Chain, Chains, Entitled, Holder, Link, Linked, None-twice, Pairs, Sides, as-plain, begun-for, final, pairs-of}
-pub use Rattle.law.specs.Plain.{Filling, Plain, PlainTrade, all-gone, closes, empties, fed, filled-as, filling-entries, fills, gone, holds-side, is-side, leaves, names, plain-number, put, side-now, terms-in, terms-of, touch, touched}
+pub use Rattle.law.specs.Plain.{Filling, Plain, PlainTrade, all-gone, closes, empties, fed, filled-as, filling-entries, fills, gone, holds-side, is-side, leaves, names, plain-number, put, side-now, terms-in, touch, touched}
 unfoldable pub use Rattle.law.specs.Plain.{given, last-filling, plain, written-since}
