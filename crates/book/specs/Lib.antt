@@ -1,0 +1,12 @@
+pub mod Cases
+pub mod Effects
+pub mod Entries
+pub mod Fields
+pub mod Joining
+pub mod Lines
+pub mod Numbering
+pub mod Runs
+pub mod State
+pub mod Steps
+pub mod Tests
+pub mod Verdicts

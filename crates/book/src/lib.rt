@@ -1,0 +1,2 @@
+// The model of the book (see specs/).
+pub mod cases;

@@ -1,0 +1,1 @@
+// The law of the book over whole runs (see specs/ and proofs/).

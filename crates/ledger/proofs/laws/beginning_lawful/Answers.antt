@@ -1,0 +1,5 @@
+use Rattle.law.proofs.Beginnings.{beginning-lawful}
+use Rattle.ledger.proofs.laws.beginning_lawful.Needs as need
+
+pub returns : need.returns
+returns c = beginning-lawful

@@ -1,0 +1,2 @@
+// What is proved of every run of the book.
+pub mod laws;
