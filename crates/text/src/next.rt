@@ -52,13 +52,13 @@ fn read_first<'a>(line: &'a [u8], place: usize, range: Range) -> Result<(u64, &'
     ensures reads { λ r. ⌜ field (numberIn range) place (fields (now (line .entry))) ≡ seen r ⌝ }
     ensures small { λ r. ⌜ made r (λ p. p .0 ≤ range .most) ⌝ }
 {
-    let Some((value, rest)) = numeral(line, range) else {
+    let Some((number, rest)) = numeral(line, range) else {
         return Err(Refusal {
             ground: Ground::BadField,
             place,
         });
     };
-    Ok((value, rest))
+    Ok((number, rest))
 }
 
 // The number in a line of one field; each fault has the place that is given.
