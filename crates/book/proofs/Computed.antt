@@ -1,3 +1,4 @@
+-- The cases come out as wanted, by computation.
 use mathlib.Core.Path.{refl}
 use Rattle.keyed.specs.Rows.{whole, room}
 use Rattle.rows.specs.InUse.{stands}

@@ -185,10 +185,10 @@ unnumbered-verdict ts xs n = first-refusal (test ground.ChainNumbered 0 (not (an
 unfoldable pub closing-verdict : ℕ → Closing → Option Refusal
 closing-verdict day q = first-refusal (test ground.NoClosing 0 (leb 1201 (q .minute) && ltb day (q .day)) ∷ [])
 
--- the tests of a trade and of a side of it
-unfoldable pub on-side-verdict : State → ℕ → ℕ → ℕ → Side → Option Refusal
-on-side-verdict s minute caller n w =
-    in-turn (trade-verdict 0 (s .day) minute (s .trades .rows) (s .intermediations .rows) n) (side-verdict 0 caller w (trade s n))
+-- 7, 8, 9, 11, 13, 14, 15: the trade with number n, and a side of it
+unfoldable pub on-side-verdict : ℕ → ℕ → ℕ → List Trade → List Intermediation → ℕ → Side → Option Refusal
+on-side-verdict day minute caller ts xs n w =
+    in-turn (trade-verdict 0 day minute ts xs n) (side-verdict 0 caller w (trade-in ts n))
 
 -- 32, 33 for the chain that the request completes
 unfoldable pub completed-verdict : List Listed → State → Request → Option Refusal
@@ -199,15 +199,15 @@ unfoldable pub own-verdict : List Listed → State → Request → Option Refusa
 own-verdict r s (Capture q) = capture-verdict (s .day) (q .minute) (s .trades) (q .terms)
 own-verdict r s (Cancel q) = trade-verdict 0 (s .day) (q .minute) (s .trades .rows) (s .intermediations .rows) (q .trade)
 own-verdict r s (Include q) =
-    in-turn (on-side-verdict s (q .minute) (q .participant) (q .trade) (q .side))
+    in-turn (on-side-verdict (s .day) (q .minute) (q .participant) (s .trades .rows) (s .intermediations .rows) (q .trade) (q .side))
     (in-turn (entries-verdict r (s .day) (q .participant) (q .side) (trade s (q .trade)) 1 (entries-of q))
     (in-turn (inclusion-verdict (q .now) (trade s (q .trade) .terms .quantity) (entries-of q) (map (kept-entry r) (entries-of q)))
     (completed-verdict r s (Include q))))
 own-verdict r s (Remove q) =
-    in-turn (on-side-verdict s (q .minute) (q .participant) (q .trade) (q .side))
+    in-turn (on-side-verdict (s .day) (q .minute) (q .participant) (s .trades .rows) (s .intermediations .rows) (q .trade) (q .side))
     (empty-verdict (allocation (q .side) (trade s (q .trade)) .state))
 own-verdict r s (Confirm q) =
-    in-turn (on-side-verdict s (q .minute) (q .participant) (q .trade) (q .side))
+    in-turn (on-side-verdict (s .day) (q .minute) (q .participant) (s .trades .rows) (s .intermediations .rows) (q .trade) (q .side))
     (in-turn (empty-verdict (allocation (q .side) (trade s (q .trade)) .state))
     (in-turn (outside-verdict (held (allocation (q .side) (trade s (q .trade)))))
     (completed-verdict r s (Confirm q))))

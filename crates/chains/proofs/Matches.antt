@@ -1,4 +1,4 @@
--- The pairs of two ends: what the entries taken in order come to. Assumes nothing.
+-- The pairs of two ends: what the entries taken in order come to.
 use Rattle.keyed.proofs.Words.{Bool, true, false, cond, List, [], _∷_, _++_, map, append-assoc, _⊎_, inl, inr, _≡_, refl, sym, ap, _∙_, ℕ, zero, suc, _+_, _-_, _<_, _≤_, arith, eqb, ltb, length, take, drop, take-append-drop, cond-both, ltb-true, ltb-false}
 use Prim.Native.Nat.{min}
 use Rattle.std.proofs.shelf.Tests.{cases-lt}

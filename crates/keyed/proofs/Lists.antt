@@ -1,4 +1,4 @@
--- Filters, sums and what holds of each, over lists put together. Assumes nothing.
+-- Filters, sums and what holds of each, over lists put together.
 use Rattle.keyed.proofs.Words.{None, Option, Some, and-parts, sym, Bool, true, false, cond, List, [], _∷_, _++_, inl, inr, _≡_, refl, ap, _∙_, ℕ, _+_, arith, false≢true}
 use Rattle.keyed.specs.Lists.{those, sum, is-some, or-else, all}
 use Rattle.keyed.specs.Members.{Each, In}

@@ -1,3 +1,4 @@
+-- The empty book is lawful.
 use Rattle.keyed.proofs.Words.{true, List, [], _∷_, _≡_, refl, ℕ, _≤_, arith, length}
 use Rattle.law.proofs.Subject.{Side, Buyer, Seller, Each, entries-held, allocation, alike, Beginning, begun, trade, Agrees, Sides, Chains, Pairs, Chain, Linked, None-twice, plain, last-filling, filling-entries, given, written-since}
 use mathlib.Core.Bool.{false≢true}

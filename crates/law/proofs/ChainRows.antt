@@ -1,4 +1,4 @@
--- The trades of a completed chain are rows, with the terms that the plain book has. Assumes nothing.
+-- The trades of a completed chain are rows, with the terms that the plain book has.
 use Rattle.keyed.proofs.Words.{Bool, true, false, cond, List, [], _∷_, _++_, map, ⊎-elim, _≡_, refl, sym, ap, subst, _∙_, ℕ, zero, suc, arith, eqb, length, cases-bool, cond-both, Option, Some, None}
 use Rattle.law.proofs.Subject.{Intermediation, Side, Buyer, Seller, or-else, all, is-some, Each, find, changed, Listed, Request, is-selic, other, confirmed, id, leg, number, both-confirmed, at-side, no-trade, Trade, trade-in, Beyond, nothing, broken, tied-back, by-intermediation, beyond, onto, way, together, chain, a-trade, by-tie, tie-in, tie-of, onward, placed, confirms-in, chain-confirmed, completed, History, Beginning, State, trade, intermediation, chain-of, Agrees, Plain, plain, terms-in}
 use lib.Dec.{leb}

@@ -1,4 +1,4 @@
--- The pairs of a completed chain are as the law asks. Assumes nothing.
+-- The pairs of a completed chain are as the law asks.
 use Rattle.keyed.proofs.Words.{true, false, cond, List, [], _∷_, _++_, map, _≡_, refl, sym, ap, subst, _∙_, ℕ, _<_, _≤_, arith, length, and-parts, Option, Some, None}
 use Rattle.law.proofs.Subject.{Side, Buyer, Seller, or-else, Each, Table, find, changed-in, is-empty, is-confirmed, total, entries-held, number, allocation, both-confirmed, alike, numbered, no-trade, Trade, all, trade-in, last-of, Paired, all-numbered, numbering, chain-matches, by-selic, issuer, new-pairs, History, Beginning, State, trade, Sides, Linked, Chains, final, begun-for, given}
 use mathlib.Core.Bool.{false≢true}

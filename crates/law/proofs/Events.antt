@@ -1,4 +1,4 @@
--- What every request keeps of the pairs that needs no chains: the rows, the answers, the numbers. Assumes nothing.
+-- What every request keeps of the pairs that needs no chains: the rows, the answers, the numbers.
 use Rattle.keyed.proofs.Words.{false, cond, true≢false, List, [], _∷_, _++_, _≡_, refl, sym, ap, subst, _∙_, ℕ, _≤_, arith, length, take, drop, cond-both, Option, Some, None, Ok}
 use Rattle.law.proofs.Subject.{Answer, Written, Marked, Intermediation, find, Listed, Closing, Request, Capture, Cancel, Include, Remove, Confirm, Intermediate, ConfirmIntermediation, ExcludeIntermediation, Close, is-selic, id, number, both-confirmed, Trade, matched, excluded, placed, called-off, excluded-by, marked, written, reply, completed, effect, numbering, with-numbers, chain-matches, by-selic, issuer, new-pairs, History, Beginning, Call, event, State, trade, at-trade, plain, terms-in, closes}
 use Rattle.keyed.proofs.Lists.{each-map}

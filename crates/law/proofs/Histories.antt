@@ -1,4 +1,4 @@
--- One more event: the pairs written, the rows named, the numbers given. Assumes nothing.
+-- One more event: the pairs written, the rows named, the numbers given.
 use Rattle.keyed.proofs.Words.{Bool, true, false, cond, _&&_, List, [], _∷_, _++_, map, append-assoc, inl, inr, _≡_, refl, sym, ap, subst, _∙_, ℕ, _+_, _-_, arith, eqb, length, take, drop, take-append-drop, and-from, cases-bool, cond-both, eqb-true, eqb-false, eq-eqb, Ok, Err}
 use Rattle.law.proofs.Subject.{Answer, Written, Marked, Refusal, Pair, those, Each, is-selic, written, Event, History, Beginning, Call, event, rows-named, State, Pairs, plain, terms-in, given, closes, written-since}
 use Rattle.std.proofs.shelf.Lists.{take-all, drop-at}

@@ -54,7 +54,7 @@ module _ (v : View) (s : Sound v) where
       (cases-eq (v .sells n) (v .buys n)))
       (cases-eq (v .sells n) 0)))
 
-  -- a trade with a side that is not confirmed is not N, nor are those next to it
+  -- a trade with a side that is not confirmed is not numbered, nor are those next to it
   pub open-not : (n : ℕ) → (sure (v .buyer n) && sure (v .seller n)) ≡ false → v .num n ≡ false
   open-not n h = not-num n (λ z e. let f = full-parts (v .buyer) (v .seller) n z (s .numbers .num-full n e) in both-ways _ h (rw (f .0, f .1) refl))
 

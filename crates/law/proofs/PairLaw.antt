@@ -1,4 +1,4 @@
--- What is said of pairs, kept by an event: it is enough to know which chains are whole and confirmed before and after. Assumes nothing.
+-- What is said of pairs, kept by an event: it is enough to know which chains are whole and confirmed before and after.
 use Rattle.keyed.proofs.Words.{true, false, true≢false, List, [], _∷_, _++_, _⊎_, inl, inr, _≡_, refl, sym, ap, subst, _∙_, ℕ, _<_, eqb, cases-bool, and-parts, and-from, eqb-true, eq-eqb}
 use Rattle.law.proofs.Subject.{Pair, Buyer, those, is-some, Each, In, find, entries-held, both-confirmed, number, Paired, History, Beginning, State, trade, Link, Linked, Chains, Chain, final, All-confirmed, pairs-of, begun-for, Pairs}
 use mathlib.Core.Bool.{false≢true}

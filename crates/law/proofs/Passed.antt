@@ -94,7 +94,7 @@ side-passed s place minute caller w n t e =
     let b = passed _ _ _ (a .1) in
     record { trade = trade-passed s place minute n t; owner = eqb-true _ _ (a .0); unsure = not-true _ (b .0); untied = eqb-true _ _ (passed _ _ _ (b .1) .0) }
 
-on-side-passed : (s : State) (minute caller n : ℕ) (w : Side) → on-side-verdict s minute caller n w ≡ None → Free s caller w n
+on-side-passed : (s : State) (minute caller n : ℕ) (w : Side) → on-side-verdict (s .day) minute caller (s .trades .rows) (s .intermediations .rows) n w ≡ None → Free s caller w n
 unfolding on-side-verdict
 on-side-passed s minute caller n w e = let p = both-turns _ _ e in side-passed s 0 minute caller w n (p .0) (p .1)
 

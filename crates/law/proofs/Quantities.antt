@@ -1,4 +1,4 @@
--- The entries that a confirming request leaves are positive. Assumes nothing.
+-- The entries that a confirming request leaves are positive.
 use Rattle.keyed.proofs.Words.{Bool, true, false, cond, _&&_, _||_, List, [], _∷_, map, inl, inr, _≡_, refl, sym, ap, subst, _∙_, ℕ, _<_, arith, take, and-parts, or-cases, Some}
 use Rattle.law.proofs.Subject.{in-range, numbers-or-none, numbers, quantities, Side, Buyer, Seller, or-else, all, Each, changed, Listed, Request, held, is-empty, confirmed, entries-held, good-trade, id, leg, number, allocation, at-side, no-trade, Allocation, KeptEntry, Trade, placed, whole-entry, kept-entry, entries-of, confirms-in, State, trade, intermediation}
 use Rattle.fields.specs.Ranges.{entry-counts}

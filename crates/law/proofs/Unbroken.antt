@@ -43,7 +43,7 @@ module _ (s : State) (g : Sound s) where
       (λ _. tested 9 (is-some (chain (tie-in (s .trades .rows)) (s .intermediations .rows) n)) _ _ (λ _. tested 9 (in-time (s .day) minute (trade s n .terms)) _ _ (λ _. none-off 9) (λ _. refl))
       (λ z. absurd (both-ways _ z (chain-whole n h)))) (λ _. refl)) (λ _. refl)
 
-  side-unbroken : (minute caller n : ℕ) (w : Side) → Off 9 (on-side-verdict s minute caller n w)
+  side-unbroken : (minute caller n : ℕ) (w : Side) → Off 9 (on-side-verdict (s .day) minute caller (s .trades .rows) (s .intermediations .rows) n w)
   unfolding on-side-verdict
   side-unbroken minute caller n w = turns (trade-unbroken 0 minute n) (calm-side-verdict 0 caller w (trade s n) .0)
 

@@ -84,7 +84,7 @@ voided n v = sides n n Empty (with-trades (v .present) (put n true (v .cancelled
 abbrev pub re-numbered : (ℕ → Bool) → View → View
 re-numbered b v = with-trades (v .present) (v .cancelled) b (v .terms) v
 
--- the chain of n becomes N and has its pairs
+-- the chain of n becomes numbered and has its pairs
 abbrev pub numbered : List Pair → ℕ → View → View
 numbered ps n v = with-pairs (v .pairs ++ ps) (re-numbered (joined (prev v) n (v .num)) v)
 
