@@ -1,9 +1,8 @@
 -- Every run is lawful.
 use Rattle.keyed.proofs.Words.{true, false, cond, _&&_, List, [], _∷_, _⊎_, inl, inr, ⊎-elim, _≡_, refl, sym, ap, subst, _∙_, ℕ, _≤_, eqb, length, cases-bool, Option, Some, None, Ok}
-use Rattle.law.proofs.Subject.{Refusal, those, Each, Listed, Request, Capture, Cancel, Include, Remove, Confirm, Intermediate, ConfirmIntermediation, ExcludeIntermediation, Close, Trade, placed, reply, if-all-confirmed, chain-confirmed, completed, chain-matches, issuer, with-numbers, confirms-in, effect, History, Beginning, Call, event, rows-named, Run, stepped, ran, begun, State, outcome, step, verdict, Sides, Pairs, final, closes, plain, last-filling}
 use Rattle.book.specs.Steps.{Outcome}
 use Rattle.law.proofs.Accepts.{accepted, confirming}
-use Rattle.law.proofs.Beginnings.{beginning-lawful}
+use Rattle.law.proofs.Beginnings.{begun-agrees, begun-sides, begun-pairs}
 use Rattle.law.proofs.Books.{Sound, Confirmed-hold}
 use Rattle.law.proofs.ChainLaw.{chains}
 use Rattle.law.proofs.ChainRows.{Found, completed-found, kind-known}
@@ -20,8 +19,9 @@ use Rattle.law.proofs.Quantities.{placed-sound}
 use Rattle.law.proofs.Shown.{view}
 use Rattle.law.proofs.SidesKept.{Kept, placed-fair, accepted as kept-accepted, refused as kept-refused}
 use Rattle.law.proofs.Steps.{ends-hold, enough, unchanged, written, Old-pairs, old-pairs, with-numbers-frozen}
+use Rattle.law.proofs.Subject.{Refusal, those, Each, Listed, Request, Capture, Cancel, Include, Remove, Confirm, Intermediate, ConfirmIntermediation, ExcludeIntermediation, Close, Trade, placed, reply, if-all-confirmed, chain-confirmed, completed, chain-matches, issuer, with-numbers, confirms-in, effect, History, Beginning, Call, event, rows-named, Run, stepped, ran, begun, State, outcome, step, verdict, Sides, Pairs, final, closes, plain, last-filling}
 use Rattle.law.proofs.Views.{whole-chain}
-use Rattle.law.specs.Law.{Every-run-lawful}
+use Rattle.law.specs.Law.{Every-run-lawful, Beginning-lawful}
 
 -- what a run keeps
 pub record Held (b : Beginning) (h : History) (s : State) : Type 0 where
@@ -150,11 +150,17 @@ held-ran b run [] k = k
 held-ran b run (c ∷ cs) k = held-ran b (stepped run c) cs (held-step b (run .history) (run .state) c k)
 
 pub held-begun : (b : Beginning) → Held b [] (begun b .state)
-held-begun b =
-    let l = beginning-lawful b in
-    record { sound = record { seen = nothing-sound; trade-keys = refl; intermediation-keys = refl }; kept = record { agrees = l .agrees; sides = l .sides }; pairs = l .pairs }
+held-begun b = record {
+  sound = record { seen = nothing-sound; trade-keys = refl; intermediation-keys = refl };
+  kept = record { agrees = begun-agrees b; sides = begun-sides b };
+  pairs = begun-pairs b;
+}
 
 pub every-run-lawful : Every-run-lawful
 every-run-lawful b cs =
     let k = held-ran b (begun b) cs (held-begun b) in
     record { agrees = k .kept .agrees; sides = k .kept .sides; chains = chains (ran (begun b) cs .state) (k .sound); pairs = k .pairs }
+
+pub beginning-lawful : Beginning-lawful
+unfolding ran
+beginning-lawful b = every-run-lawful b []

@@ -1,4 +1,4 @@
-use Rattle.law.proofs.Beginnings.{beginning-lawful}
+use Rattle.law.proofs.Every.{beginning-lawful}
 use Rattle.ledger.proofs.laws.beginning_lawful.Needs as need
 
 pub returns : need.returns
