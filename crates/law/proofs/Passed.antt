@@ -1,8 +1,7 @@
 -- What is known of a request that was accepted: the tests that the law rests on, by name.
 use Rattle.keyed.proofs.Words.{Bool, cond, false, not, true, _||_, List, [], map, _∷_, ap, refl, subst, sym, _≡_, ℕ, _+_, _≤_, arith, eqb, length, and-parts, eqb-true, ne-eqb, not-true, false≢true, Option, None, Some}
-use Rattle.law.proofs.Subject.{in-range, numbers, quantities, numbers-or-none, Refusal, Entry, Intermediation, Side, Buyer, Seller, Terms, all, any, is-some, Each, Table, find, rises-above, Listed, account-in, tied-in, Inclusion, IntermediationCall, NewIntermediation, NewTrade, Request, Cancel, Capture, Close, Confirm, ConfirmIntermediation, ExcludeIntermediation, Include, Intermediate, Remove, SideCall, active, suits, is-confirmed, is-empty, total, good-intermediation, good-trade, any-leg, both-legs, each-leg, has-leg, id, leg, alike, allocation, is-cancelled, number, numbered-in, party, trade-in, AllocationState, Trade, matched, entries-of, kept-entry, no-account, shown, capture-fields, entries-fields, entry-fields, fields-verdict, inclusion-fields, intermediation-fields, leg-fields, side-fields, apart-in, numbers-in, short-in, chain-matches, completed, issuer, State, intermediation, trade, in-turn, only-if, account-verdict, capture-verdict, completed-verdict, each-leg-verdict, empty-verdict, entries-verdict, entry-verdict, id-verdict, inclusion-verdict, intermediary-verdict, intermediation-verdict, leg-tied-verdict, leg-verdict, legs-verdict, numbers-verdict, on-side-verdict, own-verdict, side-verdict, sides-verdict, tables-verdict, ties-verdict, trade-verdict, two-legs-verdict, unnumbered-verdict, verdict, Entitled}
+use Rattle.law.proofs.Subject.{in-range, numbers, quantities, numbers-or-none, Refusal, Entry, Intermediation, Side, Buyer, Seller, Terms, all, any, is-some, Each, Table, find, rises-above, Listed, account-in, tied-in, Inclusion, IntermediationCall, NewIntermediation, NewTrade, Request, Cancel, Capture, Close, Confirm, ConfirmIntermediation, ExcludeIntermediation, Include, Intermediate, Remove, SideCall, active, suits, is-confirmed, is-empty, total, good-intermediation, good-trade, any-leg, both-legs, each-leg, has-leg, id, leg, alike, allocation, is-cancelled, number, numbered-in, party, trade-in, AllocationState, Trade, matched, entries-of, kept-entry, no-account, shown, fields-verdict, apart-in, numbers-in, short-in, chain-matches, completed, issuer, State, intermediation, trade, in-turn, only-if, account-verdict, capture-verdict, completed-verdict, each-leg-verdict, empty-verdict, entries-verdict, entry-verdict, id-verdict, inclusion-verdict, intermediary-verdict, intermediation-verdict, leg-tied-verdict, leg-verdict, legs-verdict, numbers-verdict, on-side-verdict, own-verdict, side-verdict, sides-verdict, tables-verdict, ties-verdict, trade-verdict, two-legs-verdict, unnumbered-verdict, verdict, Entitled}
 use Rattle.std.proofs.shelf.Tests.{leb-true}
-use Rattle.fields.specs.Ranges.{minutes, participants}
 use Rattle.fields.specs.declared.account.Party.{Party}
 use Rattle.fields.specs.declared.range.Range.{Range}
 use Rattle.keyed.proofs.Lists.{none-some, some-of}
@@ -11,6 +10,11 @@ use Rattle.rows.specs.InUse.{stands}
 use Rattle.rows.specs.Legs.{leg-state}
 use Rattle.chains.proofs.Matches.{Positive}
 use Rattle.chains.proofs.Walk.{Not0}
+use Rattle.std.specs.declared.result.Result.{Result}
+use Rattle.std.specs.declared.result.Result.the-variants.{Err, Ok}
+use Rattle.requests.specs.Tests.{entry-tests, field-tests, fields-pass, side-call-tests, sold-range}
+use Rattle.requests.proofs.Tested.{All-in, all-in}
+use Rattle.book.specs.Fields.{as-verdict}
 use Rattle.book.specs.Entries.{calling}
 
 -- ── Verdicts ──
@@ -98,12 +102,14 @@ on-side-passed : (s : State) (minute caller n : ℕ) (w : Side) → on-side-verd
 unfolding on-side-verdict
 on-side-passed s minute caller n w e = let p = both-turns _ _ e in side-passed s 0 minute caller w n (p .0) (p .1)
 
-number-good : (q : SideCall) → side-fields q ≡ None → Not0 (q .trade)
-unfolding side-fields
-number-good q e =
-    let a = passed (in-range minutes (q .minute)) _ _ e in
-    let b = passed (in-range participants (q .participant)) _ _ (a .1) in
-    good-not0 (q .trade) (passed _ _ _ (b .1) .0)
+-- each number of the request is in its range
+fields-in : (q : Request) → fields-verdict q ≡ None → All-in (field-tests q)
+unfolding fields-verdict
+fields-in q e = all-in (field-tests q) (go (fields-pass q) e)
+  where
+    go : (a : Result (Unit {0}) Refusal) → as-verdict a ≡ None → a ≡ Ok tt
+    go (Ok _) h = refl
+    go (Err f) h = absurd (none-some f (sym h))
 
 filled-passed : (st : AllocationState) → empty-verdict st ≡ None → is-empty st ≡ false
 unfolding empty-verdict
@@ -129,9 +135,9 @@ pub record Captures (s : State) (q : NewTrade) : Type 0 where
   pub number-is : Not0 (q .terms .number)
   pub absent : is-some (find number (q .terms .number) (s .trades .rows)) ≡ false
 
-capture-passed : (s : State) (q : NewTrade) → capture-fields q ≡ None → capture-verdict (s .day) (q .minute) (s .trades) (q .terms) ≡ None → Captures s q
-unfolding capture-fields capture-verdict
-capture-passed s q f e = record { number-is = good-not0 (q .terms .number) (passed _ _ _ (passed _ _ _ f .1) .0); absent = not-true _ (passed _ _ _ e .0) }
+capture-passed : (s : State) (q : NewTrade) → All-in (field-tests (Capture q)) → capture-verdict (s .day) (q .minute) (s .trades) (q .terms) ≡ None → Captures s q
+unfolding capture-verdict
+capture-passed s q f e = record { number-is = good-not0 (q .terms .number) (f .1 .0); absent = not-true _ (passed _ _ _ e .0) }
 
 pub record Includes (r : List Listed) (s : State) (q : Inclusion) : Type 0 where
   pub number-is : Not0 (q .trade)
@@ -141,12 +147,9 @@ pub record Includes (r : List Listed) (s : State) (q : Inclusion) : Type 0 where
   pub sums : total (entries-of q) ≡ trade s (q .trade) .terms .quantity
   pub enough : Enough r s (Include q)
 
-entries-positive : (place : ℕ) (es : List Entry) → entries-fields place es ≡ None → Positive es
-unfolding entries-fields entry-fields
+entries-positive : (place : ℕ) (es : List Entry) → All-in (entry-tests place es) → Positive es
 entries-positive place [] h = tt
-entries-positive place (e ∷ es) h =
-    let p = both-turns _ _ h in
-    (at-least quantities (e .quantity) (passed _ _ _ (passed _ _ _ (p .0) .1) .0), entries-positive (place + 3) es (p .1))
+entries-positive place (e ∷ es) h = (at-least quantities (e .quantity) (h .1 .0), entries-positive (place + 3) es (h .1 .1 .1))
 
 pub calling-is : (caller : ℕ) (w : Side) (t : Terms) → party w t .participant ≡ caller → calling caller w t ≡ party w t
 calling-is caller w t e = ap (λ (c : ℕ). let x : Party = record { participant = c; offeror = party w t .offeror } in x) (sym e)
@@ -171,20 +174,17 @@ entries-entitled r day caller w t place (e ∷ es) own h =
       entries-entitled r day caller w t (place + 1) es own (p .1),
     )
 
-include-passed : (r : List Listed) (s : State) (q : Inclusion) → fields-verdict (Include q) ≡ None → own-verdict r s (Include q) ≡ None → Includes r s q
-unfolding fields-verdict inclusion-fields own-verdict inclusion-verdict
+include-passed : (r : List Listed) (s : State) (q : Inclusion) → All-in (field-tests (Include q)) → own-verdict r s (Include q) ≡ None → Includes r s q
+unfolding own-verdict inclusion-verdict
 include-passed r s q f e =
-    let fs = both-turns _ _ f in
     let a = both-turns _ _ e in
     let b = both-turns _ _ (a .1) in
     let c = both-turns _ _ (b .1) in
-    let g = passed (in-range minutes (q .minute)) _ _ (fs .0) in
-    let h = passed (in-range participants (q .participant)) _ _ (g .1) in
     let side = on-side-passed s (q .minute) (q .participant) (q .trade) (q .side) (a .0) in
     record {
-      number-is = good-not0 (q .trade) (passed _ _ _ (h .1) .0);
+      number-is = good-not0 (q .trade) (f .1 .1 .0);
       free = side;
-      positive = entries-positive 8 (entries-of q) (fs .1);
+      positive = entries-positive 8 (entries-of q) (f .1 .1 .1 .1);
       entitled = entries-entitled r (s .day) (q .participant) (q .side) (trade s (q .trade)) 1 (entries-of q) (side .owner) (b .0);
       sums = eqb-true _ _ (passed _ _ _ (c .0) .0);
       enough = enough r s (Include q) (c .1);
@@ -196,13 +196,13 @@ pub record Confirms (r : List Listed) (s : State) (q : SideCall) : Type 0 where
   pub holds : is-empty (allocation (q .side) (trade s (q .trade)) .state) ≡ false
   pub enough : Enough r s (Confirm q)
 
-confirm-passed : (r : List Listed) (s : State) (q : SideCall) → fields-verdict (Confirm q) ≡ None → own-verdict r s (Confirm q) ≡ None → Confirms r s q
-unfolding fields-verdict own-verdict
+confirm-passed : (r : List Listed) (s : State) (q : SideCall) → All-in (side-call-tests q) → own-verdict r s (Confirm q) ≡ None → Confirms r s q
+unfolding own-verdict
 confirm-passed r s q f e =
     let a = both-turns _ _ e in
     let b = both-turns _ _ (a .1) in
     record {
-      number-is = number-good q f;
+      number-is = good-not0 (q .trade) (f .1 .1 .0);
       free = on-side-passed s (q .minute) (q .participant) (q .trade) (q .side) (a .0);
       holds = filled-passed _ (b .0);
       enough = enough r s (Confirm q) (both-turns _ _ (b .1) .1);
@@ -245,11 +245,16 @@ two-legs-passed ts xs n m e =
     let k = and-parts (apart-in ts xs n m) (short-in ts xs n m) (passed _ _ _ (a .1) .0) in
     (a .0, not-true _ (k .0), leb-true _ _ (k .1))
 
-intermediate-passed : (r : List Listed) (s : State) (q : NewIntermediation) → fields-verdict (Intermediate q) ≡ None → own-verdict r s (Intermediate q) ≡ None → Intermediates r s q
-unfolding fields-verdict intermediation-fields leg-fields own-verdict id-verdict intermediary-verdict
+-- both legs 0 is no range of the sold one
+some-leg-in : (bought sold : ℕ) → in-range (sold-range bought) sold ≡ true → (not (eqb bought 0) || not (eqb sold 0)) ≡ true
+some-leg-in bought sold h =
+    let P : Bool → Type 0 = λ t. in-range (cond t numbers numbers-or-none) sold ≡ true → (not t || not (eqb sold 0)) ≡ true in
+    (elim (eqb bought 0) as P [ true ↦ λ k. ap not (ne-eqb sold 0 (good-not0 sold k)) | false ↦ λ k. refl ]) h
+
+intermediate-passed : (r : List Listed) (s : State) (q : NewIntermediation) → All-in (field-tests (Intermediate q)) → own-verdict r s (Intermediate q) ≡ None → Intermediates r s q
+unfolding own-verdict id-verdict intermediary-verdict
 intermediate-passed r s q f e =
     let x = q .intermediation in
-    let fs = both-turns _ _ f in
     let a = both-turns _ _ e in
     let b = both-turns _ _ (a .1) in
     let c = both-turns _ _ (b .1) in
@@ -257,13 +262,9 @@ intermediate-passed r s q f e =
     let g = both-turns _ _ (d .1) in
     let i = passed _ _ _ (d .0) in
     let j = passed _ _ _ (i .1) in
-    let k = passed (in-range minutes (q .minute)) _ _ (fs .0) in
-    let l = passed (in-range participants (x .participant)) _ _ (k .1) in
-    let m = passed (in-range numbers-or-none (x .bought)) _ _ (fs .1) in
-    let n = passed (in-range numbers-or-none (x .sold)) _ _ (m .1) in
     record {
-      id-is = good-not0 (x .id) (passed _ _ _ (l .1) .0);
-      some-leg = passed _ _ _ (n .1) .0;
+      id-is = good-not0 (x .id) (f .1 .1 .0);
+      some-leg = some-leg-in (x .bought) (x .sold) (f .1 .1 .1 .1 .1 .0);
       absent = not-true _ (passed _ _ _ (a .0) .0);
       free = leg-free s (q .minute) x (b .0);
       alike-legs = λ h. two-legs-passed (s .trades .rows) (s .intermediations .rows) (x .bought) (x .sold) (asked-for (both-legs x) _ (c .0) h) .0;
@@ -332,9 +333,9 @@ Own r s (ConfirmIntermediation q) = Confirms-both r s q
 Own r s (ExcludeIntermediation q) = Excludes s q
 Own r s (Close q) = Unit {0}
 
-own-passed : (r : List Listed) (s : State) (q : Request) → fields-verdict q ≡ None → own-verdict r s q ≡ None → Own r s q
-unfolding fields-verdict own-verdict
-own-passed r s (Capture q) f e = capture-passed s q (both-turns _ _ f .0) e
+own-passed : (r : List Listed) (s : State) (q : Request) → All-in (field-tests q) → own-verdict r s q ≡ None → Own r s q
+unfolding own-verdict
+own-passed r s (Capture q) f e = capture-passed s q f e
 own-passed r s (Cancel q) f e = trade-passed s 0 (q .minute) (q .trade) e
 own-passed r s (Include q) f e = include-passed r s q f e
 own-passed r s (Remove q) f e = on-side-passed s (q .minute) (q .participant) (q .trade) (q .side) (both-turns _ _ e .0)
@@ -353,4 +354,4 @@ unfolding verdict
 all-passed r s q e =
     let a = both-turns _ _ e in
     let b = both-turns _ _ (a .1) in
-    record { tables = tables-passed s (b .0); own = own-passed r s q (a .0) (b .1) }
+    record { tables = tables-passed s (b .0); own = own-passed r s q (fields-in q (a .0)) (b .1) }

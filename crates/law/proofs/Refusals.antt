@@ -1,9 +1,14 @@
 -- On which grounds a request is not refused.
 use Rattle.keyed.proofs.Words.{Bool, false, true, cond, List, [], _∷_, ap, refl, sym, _≡_, _∙_, ℕ, _+_, arith, eqb, both-ways, eq-eqb, Option, None, Some}
-use Rattle.law.proofs.Subject.{number-of, Refusal, Entry, Intermediation, Kind, Pair, Side, Buyer, Seller, Terms, Table, Listed, Closing, Request, Cancel, Capture, Close, Confirm, ConfirmIntermediation, ExcludeIntermediation, Include, Intermediate, Remove, held, other, has-leg, allocation, AllocationState, KeptEntry, Trade, entries-of, shown, side-fields, capture-fields, entries-fields, entry-fields, fields-verdict, inclusion-fields, intermediation-fields, leg-fields, completed, State, in-turn, only-if, account-verdict, capture-verdict, completed-verdict, each-leg-verdict, empty-verdict, entries-verdict, entry-verdict, id-verdict, inclusion-verdict, intermediary-verdict, leg-tied-verdict, numbers-verdict, side-verdict, sides-verdict, tables-verdict, ties-verdict, unnumbered-verdict}
+use Rattle.law.proofs.Subject.{number-of, Refusal, Entry, Intermediation, Kind, Pair, Side, Buyer, Seller, Terms, Table, Listed, Closing, Request, Cancel, Capture, Close, Confirm, ConfirmIntermediation, ExcludeIntermediation, Include, Intermediate, Remove, held, other, has-leg, allocation, AllocationState, KeptEntry, Trade, entries-of, shown, fields-verdict, completed, State, in-turn, only-if, account-verdict, capture-verdict, completed-verdict, each-leg-verdict, empty-verdict, entries-verdict, entry-verdict, id-verdict, inclusion-verdict, intermediary-verdict, leg-tied-verdict, numbers-verdict, side-verdict, sides-verdict, tables-verdict, ties-verdict, unnumbered-verdict}
 use Rattle.std.proofs.shelf.Ways.{tells}
 use Rattle.fields.specs.declared.account.AccountType.{AccountType}
-use Rattle.book.specs.Fields.{call-fields, cancel-fields, closing-fields, party-fields}
+use Rattle.fields.specs.Ranges.{in-range}
+use Rattle.requests.specs.Tests.{Test, field-tests}
+use Rattle.requests.specs.Tests as requests
+use Rattle.std.specs.declared.result.Result.the-variants.{Err}
+use Rattle.fields.specs.declared.ground.Ground.the-variants.{BadField}
+use Rattle.book.specs.Fields.{as-verdict}
 use Rattle.book.specs.Verdicts.{closing-verdict, leg-opposite-verdict, opposite-verdict, opposites-verdict, outside-verdict}
 
 -- the verdict is a refusal on the ground with this number
@@ -105,10 +110,12 @@ pub calm-closing-verdict : (day : ℕ) (q : Closing) → Calm (closing-verdict d
 unfolding closing-verdict
 calm-closing-verdict day q = (record { off = grind (arith, tells) }, record { off = grind (arith, tells) })
 
-pub calm-entries-fields : (place : ℕ) (es : List Entry) → Calm (entries-fields place es)
-unfolding entries-fields entry-fields
-calm-entries-fields place [] = calm-none
-calm-entries-fields place (e ∷ es) = let h = calm-entries-fields (place + 3) es in (record { off = grind (arith, tells, h .0 .off) }, record { off = grind (arith, tells, h .1 .off) })
+calm-tested : (ts : List Test) → Calm (as-verdict (requests.tested ts))
+calm-tested [] = calm-none
+calm-tested (t ∷ ts) =
+    let h = calm-tested ts in
+    let P : Bool → Type 0 = λ b. Calm (as-verdict (cond b (requests.tested ts) (Err (record { ground = BadField; place = t .place })))) in
+    elim (in-range (t .range) (t .value)) as P [ true ↦ h | false ↦ (record { off = refl }, record { off = refl }) ]
 
 pub calm-entries : (r : List Listed) (day caller : ℕ) (w : Side) (t : Trade) (place : ℕ) (es : List Entry) → Calm (entries-verdict r day caller w t place es)
 unfolding entries-verdict entry-verdict
@@ -134,13 +141,5 @@ unfolding opposites-verdict leg-opposite-verdict
 calm-opposites ts x = (record { off = grind (arith, tells) }, record { off = grind (arith, tells) })
 
 pub calm-fields : (q : Request) → Calm (fields-verdict q)
-unfolding fields-verdict capture-fields party-fields cancel-fields inclusion-fields side-fields intermediation-fields leg-fields call-fields closing-fields
-calm-fields (Capture q) = (record { off = grind (arith, tells) }, record { off = grind (arith, tells) })
-calm-fields (Cancel q) = (record { off = grind (arith, tells) }, record { off = grind (arith, tells) })
-calm-fields (Include q) = let e = calm-entries-fields 8 (entries-of q) in (record { off = grind (arith, tells, e .0 .off) }, record { off = grind (arith, tells, e .1 .off) })
-calm-fields (Remove q) = (record { off = grind (arith, tells) }, record { off = grind (arith, tells) })
-calm-fields (Confirm q) = (record { off = grind (arith, tells) }, record { off = grind (arith, tells) })
-calm-fields (Intermediate q) = (record { off = grind (arith, tells) }, record { off = grind (arith, tells) })
-calm-fields (ConfirmIntermediation q) = (record { off = grind (arith, tells) }, record { off = grind (arith, tells) })
-calm-fields (ExcludeIntermediation q) = (record { off = grind (arith, tells) }, record { off = grind (arith, tells) })
-calm-fields (Close q) = (record { off = grind (arith, tells) }, record { off = grind (arith, tells) })
+unfolding fields-verdict
+calm-fields q = calm-tested (field-tests q)

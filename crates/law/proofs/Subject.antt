@@ -42,7 +42,7 @@ unfoldable pub use Rattle.chains.specs.Pairing.{matched}
 pub use Rattle.book.specs.Effects.{called-off, cancelled, excluded-by, marked}
 unfoldable pub use Rattle.book.specs.Effects.{excluded, placed}
 pub use Rattle.book.specs.Entries.{entries-of, included, intermediated, kept-entry, no-account, shown, whole-entry}
-unfoldable pub use Rattle.book.specs.Fields.{capture-fields, entries-fields, entry-fields, fields-verdict, inclusion-fields, intermediation-fields, leg-fields, side-fields}
+unfoldable pub use Rattle.book.specs.Fields.{fields-verdict}
 pub use Rattle.book.specs.Joining.{apart-in, numbers-in, short-in}
 pub use Rattle.book.specs.Numbering.{all-numbered, by-selic, chain-confirmed, chain-matches, confirms-in, if-all-confirmed, issuer, new-pairs, reply, with-numbers, written}
 unfoldable pub use Rattle.book.specs.Numbering.{completed, effect, numbering}

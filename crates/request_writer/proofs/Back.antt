@@ -25,6 +25,7 @@ use Rattle.writing.specs.declared.piece.Piece.{Piece}
 use Rattle.writing.specs.Written.{line-of}
 use lib.Seq.{length-take-le}
 use Rattle.requests.specs.Tests.{Test, tested, entry-tests, fields-pass, field-tests, sold-range, side-call-tests, intermediation-call-tests}
+use Rattle.requests.proofs.Tested.{All-in, all-in}
 use Rattle.requests.specs.declared.request.Request.{Request}
 use Rattle.requests.specs.declared.request.Request.the-variants.{Capture, Cancel, Include, Remove, Confirm, Intermediate, ConfirmIntermediation, ExcludeIntermediation, Close}
 use Rattle.requests.specs.declared.request.NewTrade.{NewTrade}
@@ -40,20 +41,6 @@ use Rattle.request_text.specs.Lines.{request, of-fields, side-call-line, interm
 use Rattle.request_writer.specs.RoundTrip.{Reads-back}
 use Rattle.request_writer.specs.Canonical.{pieces-of, request-line, tidy, kind-letter, side-letter, flag, entry-pieces, side-call-pieces, intermediation-call-pieces}
 use Rattle.request_writer.proofs.Plain.{No-comma, Plain, texts, no-comma-decimal, number-back, fields-line}
-
--- every test passed: each number is in its range
-abbrev pub All-in : List Test → Type 0
-All-in [] = Unit {0}
-All-in (t ∷ ts) = (in-range (t .range) (t .value) ≡ true) × All-in ts
-
-pub all-in : (ts : List Test) → tested ts ≡ Ok tt → All-in ts
-all-in [] h = tt
-all-in (t ∷ ts) h =
-    let P : Bool → Type 0 = λ b. in-range (t .range) (t .value) ≡ b → cond b (tested ts) (Err (record { ground = BadField; place = t .place })) ≡ Ok tt → All-in (t ∷ ts) in
-    (elim (in-range (t .range) (t .value)) as P [
-      | true ↦ λ e k. (e, all-in ts k)
-      | false ↦ λ e k. let z : _≡_ {A = ℕ} 0 1 = cc in absurd (omega arith)
-    ]) refl h
 
 -- a number of a range that 64 bits hold: no comma in its figures, and it reads back
 module _ (r : Range) (n : ℕ) (big : r .most < 2 ^ 64) (h : in-range r n ≡ true) where

@@ -55,3 +55,17 @@ module _ (es : List Entry) (i : ℕ) (within : i < length es) (d : Entry) where
 
 pub no-entry-left : (es : List Entry) (i k : ℕ) → length es ≤ i → tested (entry-tests k (drop i es)) ≡ Ok tt
 no-entry-left es i k h = ap (λ l. tested (entry-tests k l)) (drop-all i es h)
+
+-- every test passed: each number is in its range
+abbrev pub All-in : List Test → Type 0
+All-in [] = Unit {0}
+All-in (t ∷ ts) = (in-range (t .range) (t .value) ≡ true) × All-in ts
+
+pub all-in : (ts : List Test) → tested ts ≡ Ok tt → All-in ts
+all-in [] h = tt
+all-in (t ∷ ts) h =
+    let P : Bool → Type 0 = λ b. in-range (t .range) (t .value) ≡ b → cond b (tested ts) (Err (record { ground = BadField; place = t .place })) ≡ Ok tt → All-in (t ∷ ts) in
+    (elim (in-range (t .range) (t .value)) as P [
+      | true ↦ λ e k. (e, all-in ts k)
+      | false ↦ λ e k. let z : _≡_ {A = ℕ} 0 1 = cc in absurd (omega arith)
+    ]) refl h
