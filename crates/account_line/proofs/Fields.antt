@@ -1,5 +1,5 @@
 -- A whole field, its letters, and the code that a line begins with.
-use Rattle.std.proofs.Common.{◌≡◌, ℕ, true, eqb, List, ◌∷◌, Some, None, Ok, Err, sym, refl, ap, ◌∙◌}
+use Rattle.std.proofs.Common.{◌≡◌, ℕ, true, eqb, List, ◌∷◌, Some, None, Err, sym, ap, ◌∙◌}
 use Rattle.std.proofs.lemmas.Bool.{eq-eqb}
 use Rattle.fields.specs.Ranges.{accounts}
 use Rattle.fields.specs.declared.ground.Ground.TheVariants.{BadField}

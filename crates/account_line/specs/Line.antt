@@ -1,5 +1,5 @@
 -- An account line, field by field from left to right.
-use Rattle.std.specs.Prelude.{ℕ, ◌+◌, ◌*◌, List, [], ◌∷◌, Some, Ok, Err, Result}
+use Rattle.std.specs.Prelude.{ℕ, ◌+◌, ◌*◌, List, Ok, Err, Result}
 use Rattle.std.specs.Borrow.{Bor}
 use Rattle.fields.specs.Ranges.{from_to, accounts, days}
 use Rattle.fields.specs.declared.answer.Refusal.{Refusal}

@@ -1,4 +1,6 @@
 // An account line: code,type,status,day,markets,n and then n ties as participant,offeror.
+#![tactic(auto)]
+
 pub mod reader;
 mod ties;
 mod words;

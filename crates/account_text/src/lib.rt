@@ -1,4 +1,6 @@
 // An account text as a register.
+#![tactic(auto)]
+
 ghost use Rattle.std.specs.Prelude.{◌≡◌, List, Some, None, MatchOption};
 ghost use Rattle.account_text.specs.Texts.{rows_in, text_means, text_apart};
 ghost use Rattle.accounts.specs.Rows.{listed, row_code};

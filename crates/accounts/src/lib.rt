@@ -1,4 +1,6 @@
 // A table of account rows as a register.
+#![tactic(auto)]
+
 pub mod row;
 pub mod table;
 mod ties;

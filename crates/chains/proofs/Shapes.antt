@@ -1,5 +1,5 @@
 -- A chain of places has one trade, two or three.
-use Rattle.keyed.proofs.Words.{Bool, List, [], ◌&&◌, ◌++◌, ◌||◌, ◌∷◌, ◌≡◌, ap, ap₂, cases_eq, cond, eq-eqb, eqb, false, map, ne_eqb, refl, subst, sym, true, ℕ, ◌∙◌, ⊎_elim}
+use Rattle.keyed.proofs.Words.{Bool, List, ◌&&◌, ◌||◌, ◌≡◌, ap, cases_eq, false, refl, subst, sym, true, ℕ, ⊎_elim}
 use Rattle.std.proofs.Common.{length}
 use Rattle.keyed.specs.Lists.{all, any}
 use Rattle.rows.specs.declared.row.Trade.{Trade}

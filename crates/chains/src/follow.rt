@@ -1,5 +1,6 @@
 // Following a chain by the places of its trades.
 ghost use Rattle.std.specs.Prelude.{◌≡◌, List, Some, None, MatchResult};
+ghost use Rattle.fields.specs.Refusals.{refused};
 ghost use Rattle.fields.specs.declared.ground.Ground.TheVariants.{BrokenChain};
 ghost use Rattle.keyed.specs.Members.{Each};
 ghost use Rattle.keyed.specs.Rows.{find as found};
@@ -162,7 +163,7 @@ pub fn follow(
     place: usize,
 ) -> Result<(usize, usize, usize, usize), Refusal>
     requires { Findable trades.now at }
-    ensures { MatchResult result (Followed new trades.now intermediations.now (number_at trades.now at)) (λ f. (chain_with new trades.now intermediations.now (number_at trades.now at) ≡ None) × (f ≡ record { ground = BrokenChain; place = place })) }
+    ensures { MatchResult result (Followed new trades.now intermediations.now (number_at trades.now at)) (λ f. (chain_with new trades.now intermediations.now (number_at trades.now at) ≡ None) × (f ≡ refused BrokenChain place)) }
 {
     let broken = Refusal {
         ground: Ground::BrokenChain,

@@ -1,7 +1,6 @@
 -- The number of each ground of refusal, and the places at which it may stand.
-use Rattle.std.specs.Prelude.{List, [], ◌∷◌, Bool, true, false, ◌||◌, ℕ, eqb, leb}
+use Rattle.std.specs.Prelude.{List, [], ◌∷◌, Bool, false, ◌||◌, ℕ, eqb, leb}
 use Rattle.fields.specs.Ranges.{from_to, is_in_range}
-use Rattle.fields.specs.declared.range.Range.{Range}
 use Rattle.fields.specs.declared.ground.Ground.{Ground}
 use Rattle.fields.specs.declared.ground.Ground.TheVariants as ground
 

@@ -1,4 +1,6 @@
 // The fields of requests and tables, the records that several crates share, and the words of an answer.
+#![tactic(auto)]
+
 pub mod account;
 pub mod answer;
 pub mod ground;

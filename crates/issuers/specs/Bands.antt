@@ -2,6 +2,7 @@
 use Rattle.std.specs.Prelude.{◌≡◌, ℕ, zero, suc, ◌+◌, ◌-◌, ◌<◌, ◌≤◌, cond, List, [], ◌∷◌, Some, None, Option}
 use Rattle.std.proofs.Common.{inl, inr, arith}
 use Rattle.std.proofs.lemmas.Bool.{cases_lt, le-leb}
+use Rattle.fields.specs.Refusals.{refused}
 use Rattle.fields.specs.Ranges.{is_in_range, issued}
 use Rattle.fields.specs.declared.answer.Refusal.{Refusal}
 use Rattle.fields.specs.declared.ground.Ground.TheVariants.{BadField}
@@ -19,7 +20,7 @@ band first last = counted first (last + 1 - first)
 -- both ends have to be numbers that may be issued
 abbrev pub band_fault : ℕ → ℕ → Option Refusal
 band_fault first last =
-    cond (is_in_range issued first) (cond (is_in_range issued last) None (Some record { ground = BadField; place = 2 })) (Some record { ground = BadField; place = 1 })
+    cond (is_in_range issued first) (cond (is_in_range issued last) None (Some (refused BadField 2))) (Some (refused BadField 1))
 
 above : (n from count : ℕ) → n < from → NotIn n (counted from count)
 above n from zero h = tt

@@ -8,7 +8,7 @@ use fields::Kind;
 
 // How many numbers are left for this kind.
 pub fn remaining_for<S: Issuer, C: Issuer>(selic: &S, control: &C, kind: Kind) -> u64
-    ensures { result ≡ length (for_kind kind (S.Issuer.left selic.now) (C.Issuer.left control.now)) }
+    ensures { result ≡ length (for_kind kind (S.left selic.now) (C.left control.now)) }
 {
     match kind {
         Kind::Selic => selic.remaining(),
@@ -18,9 +18,9 @@ pub fn remaining_for<S: Issuer, C: Issuer>(selic: &S, control: &C, kind: Kind) -
 
 // The next number for this kind; the other issuer is left as it is.
 pub fn next_for<S: Issuer, C: Issuer>(selic: &mut S, control: &mut C, kind: Kind) -> Option<u64>
-    ensures given { result ≡ first_of (for_kind kind (S.Issuer.left selic.old) (C.Issuer.left control.old)) }
-    ensures selic { S.Issuer.left selic.new ≡ for_kind kind (rest_of (S.Issuer.left selic.old)) (S.Issuer.left selic.old) }
-    ensures control { C.Issuer.left control.new ≡ for_kind kind (C.Issuer.left control.old) (rest_of (C.Issuer.left control.old)) }
+    ensures given { result ≡ first_of (for_kind kind (S.left selic.old) (C.left control.old)) }
+    ensures selic { S.left selic.new ≡ for_kind kind (rest_of (S.left selic.old)) (S.left selic.old) }
+    ensures control { C.left control.new ≡ for_kind kind (C.left control.old) (rest_of (C.left control.old)) }
 {
     match kind {
         Kind::Selic => selic.next(),

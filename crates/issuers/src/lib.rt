@@ -1,4 +1,6 @@
 // The issuers of the numbers that pairs get.
+#![tactic(auto)]
+
 pub mod band;
 pub mod by_kind;
 pub mod roll;

@@ -1,11 +1,10 @@
 -- What a turn by one of a part of the rows leaves. Assumes nothing.
-use Rattle.std.proofs.Common.{◌≡◌, ℕ, zero, suc, ◌+◌, ◌-◌, ◌<◌, ◌≤◌, true, false, cond, ltb, List, [], ◌∷◌, ◌++◌, length, get_or, take, drop, set, sym, refl, ap, ◌∙◌, add-one, one-add, arith, length-drop}
+use Rattle.std.proofs.Common.{◌≡◌, ℕ, ◌+◌, ◌-◌, ◌<◌, ◌≤◌, true, false, cond, ltb, List, [], ◌∷◌, ◌++◌, length, take, drop, set, sym, refl, ap, ◌∙◌, add-one, one-add, arith, length-drop}
 use Rattle.std.proofs.lemmas.Slice.{between_is}
 use borrow.Rule.Slice.PartMut.{put_mid}
-use Rattle.std.proofs.lemmas.List.{append_assoc, take_at, drop_at, length_push, length-take-le, length-append, length-take, take-append-drop, set_split, drop-drop, take-append-le, drop-append-le, drop_more, take-take, length-set}
-use Rattle.std.proofs.lemmas.Bool.{cond_both, ltb-true, ltb-false}
+use Rattle.std.proofs.lemmas.List.{append_assoc, take_at, drop_at, length_push, length-take-le, length-append, length-take, take-append-drop, set_split, drop-drop, take-take}
 use Rattle.keyed.specs.Places.{below, put_in, without, At}
-use Rattle.keyed.specs.Rows.{entered, removed, table, entered_in, removed_in}
+use Rattle.keyed.specs.Rows.{entered, table, entered_in, removed_in}
 
 -- the last of a part comes before it
 turned_up : {R : Type 0} (b : List R) (row : R) → drop (length (b ++ (row ∷ [])) - 1) (b ++ (row ∷ [])) ++ take (length (b ++ (row ∷ [])) - 1) (b ++ (row ∷ [])) ≡ row ∷ b

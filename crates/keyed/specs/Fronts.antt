@@ -1,5 +1,6 @@
 -- How far a table of any origin can be relied on.
-use Rattle.std.specs.Prelude.{ℕ, ◌+◌, Bool, cond, ◌&&◌, List, [], ◌∷◌, length, Ok, Err, Result, nat_lt}
+use Rattle.std.specs.Prelude.{ℕ, ◌+◌, Bool, cond, ◌&&◌, List, [], ◌∷◌, Ok, Err, Result, nat_lt}
+use Rattle.fields.specs.Refusals.{refused}
 use Rattle.fields.specs.declared.answer.Refusal.{Refusal}
 use Rattle.fields.specs.declared.ground.Ground.TheVariants.{EndsEarly}
 
@@ -10,4 +11,4 @@ rising_front key good k (x ∷ xs) = cond (nat_lt k (key x) && good x) (x ∷ ri
 
 -- a table of which only the first `good` rows count ends early, at the row after them
 abbrev pub ends_early : ℕ → ℕ → Result (Unit {0}) Refusal
-ends_early good rows = cond (nat_lt good rows) (Err record { ground = EndsEarly; place = good + 1 }) (Ok tt)
+ends_early good rows = cond (nat_lt good rows) (Err (refused EndsEarly (good + 1))) (Ok tt)

@@ -1,4 +1,6 @@
 // Tables of rows in rising key order, over lent slices of which the first `count` rows are in use.
+#![tactic(auto)]
+
 pub mod plain;
 pub mod row;
 pub mod scan;

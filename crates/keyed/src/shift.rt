@@ -9,8 +9,8 @@ use crate::scan::place;
 // Enters a row at the place of its key.
 pub fn enter<R: Keyed + Copy>(rows: &mut [R], count: usize, row: R)
     requires { count < length rows.old }
-    ensures rows { take (count + 1) rows.new ≡ entered key row (take count rows.old) }
-    ensures table { table (count + 1) rows.new ≡ entered_in key row (table count rows.old) }
+    ensures rows { take (count + 1) rows.new ≡ entered R.key row (take count rows.old) }
+    ensures table { table (count + 1) rows.new ≡ entered_in R.key row (table count rows.old) }
     ensures beyond { drop (count + 1) rows.new ≡ drop (count + 1) rows.old }
 {
     let at = place(&rows[0..count], row.key_number());

@@ -1,5 +1,6 @@
 -- What else holds in every run from an empty book.
 use Rattle.std.specs.Prelude.{◌≡◌, ℕ, ◌+◌, ◌≤◌, true, List, [], ◌∷◌, length, None, Err, ◌≢◌}
+use Rattle.fields.specs.Refusals.{refused}
 use Rattle.fields.specs.declared.ground.Ground.{Ground}
 use Rattle.fields.specs.declared.trade.Side.{Side}
 use Rattle.keyed.specs.Members.{Each, In}
@@ -57,7 +58,7 @@ NumberedChainStays =
 
 -- no request is answered so, at any place
 abbrev pub Never : Ground → List Listed → State → Request → Type 0
-Never g r s q = (place : ℕ) → (step r s q).answer ≢ Err (record { ground = g; place = place })
+Never g r s q = (place : ℕ) → (step r s q).answer ≢ Err (refused g place)
 
 -- after any run no request is refused for a broken chain
 abbrev pub NeverBroken : Type 0

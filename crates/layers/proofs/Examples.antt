@@ -1,7 +1,7 @@
 -- Codes held and released.
 use Rattle.std.proofs.Common.{◌≡◌, ℕ, zero, suc, ◌+◌, true, false, List, [], ◌∷◌, Ok, Err, refl}
 use Rattle.fields.specs.declared.ground.Ground.TheVariants.{BadField, HoldsFull}
-use Rattle.layers.specs.Codes.{held, hold_codes, hold_answer, release_codes, release_answer}
+use Rattle.layers.specs.Codes.{hold_codes, hold_answer, release_codes, release_answer}
 use Rattle.layers.specs.Layers.{open_markets}
 
 abbrev counted : ℕ → ℕ → List ℕ

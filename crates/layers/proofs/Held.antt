@@ -1,7 +1,7 @@
 -- What entering and taking out a code leaves.
-use Rattle.std.proofs.Common.{◌≡◌, ℕ, ◌+◌, ◌<◌, ◌≤◌, Bool, true, false, cond, not, ◌&&◌, ◌||◌, eqb, ltb, List, [], ◌∷◌, ◌++◌, is_some, Some, None, sym, refl, ap, ◌∙◌, arith}
-use Rattle.std.proofs.lemmas.Bool.{eq-eqb, ne_eqb, eqb-false, lt-ltb, le-ltb, ltb-true, ltb-false, and_parts, or_parts, or_from, eqb-true}
-use Rattle.keyed.specs.Lists.{any, those}
+use Rattle.std.proofs.Common.{◌≡◌, ℕ, ◌+◌, ◌<◌, ◌≤◌, Bool, true, false, cond, not, ◌||◌, eqb, ltb, List, [], ◌∷◌, is_some, Some, sym, refl, ap, ◌∙◌, arith}
+use Rattle.std.proofs.lemmas.Bool.{ne_eqb, eqb-false, lt-ltb, ltb-true, ltb-false, and_parts, or_parts, or_from, eqb-true}
+use Rattle.keyed.specs.Lists.{those}
 use Rattle.keyed.specs.Places.{place_from, At, without}
 use Rattle.keyed.specs.Rows.{entered, removed, rises_above}
 use Rattle.layers.specs.Codes.{held, rising}

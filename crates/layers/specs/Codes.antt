@@ -2,6 +2,7 @@
 use Rattle.std.specs.Prelude.{ℕ, Bool, cond, not, ◌||◌, List, length, Ok, Err, Result, ◌==◌, nat_eq, nat_lt}
 use Rattle.keyed.specs.Lists.{any, those}
 use Rattle.keyed.specs.Rows.{entered, rises_above}
+use Rattle.fields.specs.Refusals.{refused}
 use Rattle.fields.specs.Ranges.{is_in_range, accounts}
 use Rattle.fields.specs.declared.answer.Refusal.{Refusal}
 use Rattle.fields.specs.declared.ground.Ground.TheVariants.{BadField, HoldsFull}
@@ -17,11 +18,11 @@ abbrev pub hold_codes : ℕ → List ℕ → List ℕ
 hold_codes code cs = cond (is_in_range accounts code) (cond (held code cs) cs (cond (nat_lt (length cs) 64) (entered (λ c. c) code cs) cs)) cs
 
 abbrev pub no_account : Result (Unit {0}) Refusal
-no_account = Err record { ground = BadField; place = 1 }
+no_account = Err (refused BadField 1)
 
 abbrev pub hold_answer : ℕ → List ℕ → Result (Unit {0}) Refusal
 hold_answer code cs =
-    cond (is_in_range accounts code) (cond (held code cs || nat_lt (length cs) 64) (Ok tt) (Err record { ground = HoldsFull; place = 0 })) no_account
+    cond (is_in_range accounts code) (cond (held code cs || nat_lt (length cs) 64) (Ok tt) (Err (refused HoldsFull 0))) no_account
 
 -- all the others
 abbrev pub release_codes : ℕ → List ℕ → List ℕ

@@ -8,14 +8,14 @@ use register::Register;
 
 // The account below, which a layer that keeps codes shows as it changes every account.
 pub fn account_below<R: Register>(below: &R, code: u32) -> Option<Account>
-    ensures { (f : Account → Account) → ((a : Account) → (f a).code ≡ a.code) → on_found f result ≡ account_in (each f (accounts below.now)) code }
+    ensures { (f : Account → Account) → ((a : Account) → (f a).code ≡ a.code) → on_found f result ≡ account_in (each f (R.accounts below.now)) code }
 {
     below.account(code)
 }
 
 // The ties are those below, whatever a layer makes of the accounts, if it keeps their codes.
 pub fn tied_below<R: Register>(below: &R, code: u32, party: Party) -> bool
-    ensures { (f : Account → Account) → ((a : Account) → (f a).code ≡ a.code) → result ≡ tied_in (each f (accounts below.now)) code party }
+    ensures { (f : Account → Account) → ((a : Account) → (f a).code ≡ a.code) → result ≡ tied_in (each f (R.accounts below.now)) code party }
 {
     below.tied(code, party)
 }

@@ -23,9 +23,9 @@ impl<R> Halt<R> {
 }
 
 impl<R: Register> Register for Halt<R> {
-    ghost accounts = { λ s. each (halt_account s.halted) (R.Register.accounts s.below) };
+    ghost accounts = { λ s. each (halt_account s.halted) (R.accounts s.below) };
 
-    ghost apart = { λ s. halt_apart s.halted (R.Register.accounts s.below) (R.Register.apart s.below) };
+    ghost apart = { λ s. halt_apart s.halted (R.accounts s.below) (R.apart s.below) };
 
     fn account(&self, code: u32) -> Option<Account> {
         shown(account_below(&self.below, code), self.halted)

@@ -85,9 +85,9 @@ impl<R> Hold<R> {
 }
 
 impl<R: Register> Register for Hold<R> {
-    ghost accounts = { λ s. each (hold_account (take s.count s.codes)) (R.Register.accounts s.below) };
+    ghost accounts = { λ s. each (hold_account (take s.count s.codes)) (R.accounts s.below) };
 
-    ghost apart = { λ s. hold_apart (take s.count s.codes) (R.Register.accounts s.below) (R.Register.apart s.below) };
+    ghost apart = { λ s. hold_apart (take s.count s.codes) (R.accounts s.below) (R.apart s.below) };
 
     fn account(&self, code: u32) -> Option<Account> {
         shown(account_below(&self.below, code), &self.codes[0..self.count])

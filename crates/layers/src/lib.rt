@@ -1,4 +1,6 @@
 // Layers over any register: accounts on hold, and kinds that are halted.
+#![tactic(auto)]
+
 pub mod below;
 mod codes;
 pub mod halt;

@@ -72,7 +72,7 @@ fn of_new_trade(c: &NewTrade) -> u64
 }
 
 fn of_inclusion(c: &Inclusion) -> u64
-    ensures { result ≡ of_request (Include c.now) }
+    ensures { result ≡ of_request (Include c.entry.now) }
 {
     let h = mix(
         mix(mix(3, c.minute as u64), c.participant as u64),
@@ -95,7 +95,7 @@ fn of_side_call(start: u64, c: &SideCall) -> u64
 }
 
 fn of_new_intermediation(c: &NewIntermediation) -> u64
-    ensures { result ≡ of_request (Intermediate c.now) }
+    ensures { result ≡ of_request (Intermediate c.entry.now) }
 {
     let i = c.intermediation;
     let h = mix(

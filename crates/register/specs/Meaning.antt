@@ -1,5 +1,5 @@
 -- What a register means: a list of accounts with their ties, in which no code occurs twice.
-use Rattle.std.specs.Prelude.{◌≡◌, ℕ, Bool, ◌&&◌, List, [], ◌∷◌, Some, None, Option, ◌==◌, ◌≢◌}
+use Rattle.std.specs.Prelude.{ℕ, Bool, ◌&&◌, List, [], ◌∷◌, Some, None, Option, ◌==◌, ◌≢◌}
 use Rattle.keyed.specs.Lists.{any}
 use Rattle.keyed.specs.Rows.{find}
 use Rattle.fields.specs.declared.account.Account.{Account}

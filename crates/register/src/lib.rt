@@ -1,4 +1,6 @@
 // What a register of accounts means, and what it can be asked.
+#![tactic(auto)]
+
 ghost use Rattle.std.specs.Prelude.{◌≡◌, List};
 ghost use Rattle.register.specs.Meaning.{Listed, account_in, tied_in, Apart};
 

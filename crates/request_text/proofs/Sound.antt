@@ -1,5 +1,5 @@
 -- What is read passes the tests of a direct call, and a refusal stands where its ground may.
-use Rattle.std.proofs.Common.{◌≡◌, ℕ, zero, suc, ◌+◌, ◌-◌, ◌*◌, ◌<◌, ◌≤◌, Bool, true, false, cond, ◌&&◌, eqb, leb, List, [], ◌∷◌, ◌++◌, length, take, replicate, IfOk, IfErr, Some, None, Ok, Err, Option, Result, sym, refl, ap, ◌∙◌, subst, arith}
+use Rattle.std.proofs.Common.{◌≡◌, ℕ, zero, suc, ◌+◌, ◌-◌, ◌*◌, ◌≤◌, Bool, true, false, cond, eqb, leb, List, [], ◌∷◌, length, take, replicate, IfOk, IfErr, Some, None, Ok, Err, Option, Result, sym, refl, ap, ◌∙◌, subst, arith}
 use Rattle.std.proofs.lemmas.Bool.{le-leb, leb-true, and_parts}
 use Rattle.std.proofs.lemmas.Bool.Decides.{nat_tests}
 use Rattle.std.proofs.lemmas.List.{take_at}
@@ -8,7 +8,7 @@ use Rattle.fields.specs.declared.answer.Refusal.{Refusal}
 use Rattle.fields.specs.declared.account.Party.{Party}
 use Rattle.fields.specs.declared.trade.Entry.{Entry}
 use Rattle.fields.specs.Grounds.{may_stand}
-use Rattle.fields.specs.Ranges.{is_in_range, from_to, minutes, numbers, numbers_or_none, participants, accounts, quantities, days, flags, entry_counts}
+use Rattle.fields.specs.Ranges.{is_in_range, minutes, numbers, numbers_or_none, participants, accounts, quantities, days, flags, entry_counts}
 use Rattle.fields.specs.declared.ground.Ground.TheVariants.{BadField, FieldCount}
 use Rattle.text.specs.Fields.{fields, number, numeral, within, single}
 use Rattle.text.specs.Reading.{refusal, field, then, readable, end}
@@ -20,7 +20,7 @@ use Rattle.requests.specs.declared.request.SideCall.{SideCall}
 use Rattle.requests.specs.declared.request.IntermediationCall.{IntermediationCall}
 use Rattle.request_text.specs.Letters.{kind, side}
 use Rattle.request_text.specs.Entries.{entry, entries, table, blank}
-use Rattle.request_text.specs.Lines.{party, capture_line, cancel_line, include_line, side_call_line, intermediate_line, intermediation_call_line, close_line, by_letter, of_fields, request, unknown}
+use Rattle.request_text.specs.Lines.{party, capture_line, cancel_line, include_line, side_call_line, intermediate_line, intermediation_call_line, close_line, by_letter, of_fields, request}
 
 abbrev pub Placed : Refusal → Type 0
 Placed f = may_stand f.ground f.place ≡ true

@@ -1,10 +1,9 @@
 -- A letter read by what it means, and the letter of a line.
-use Rattle.std.proofs.Common.{◌≡◌, ℕ, false, eqb, List, [], ◌∷◌, Some, None, Ok, Err, Option, Result, sym, refl, ap, ◌∙◌}
+use Rattle.std.proofs.Common.{◌≡◌, ℕ, List, [], ◌∷◌, Some, None, Option, Result, sym, refl, ap, ◌∙◌}
 use Rattle.fields.specs.declared.answer.Refusal.{Refusal}
-use Rattle.fields.specs.declared.ground.Ground.TheVariants.{UnknownLetter, BadField}
 use Rattle.text.specs.Fields.{fields, single}
 use Rattle.text.specs.Cuts.{front, after, left}
-use Rattle.text.specs.Reading.{refusal, field, then, readable}
+use Rattle.text.specs.Reading.{field, then, readable}
 use Rattle.text.proofs.Taken.{fields_is}
 use Rattle.request_text.specs.Letters.{letter}
 

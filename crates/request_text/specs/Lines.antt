@@ -1,7 +1,6 @@
 -- The request lines, field by field from left to right. The letter is field 1.
 use Rattle.std.specs.Prelude.{ℕ, ◌+◌, ◌*◌, cond, List, [], ◌∷◌, Some, None, Ok, Err, Option, Result, ◌==◌}
 use Rattle.fields.specs.Ranges.{minutes, numbers, numbers_or_none, participants, accounts, quantities, days, flags, entry_counts, issued}
-use Rattle.fields.specs.declared.range.Range.{Range}
 use Rattle.fields.specs.declared.answer.Refusal.{Refusal}
 use Rattle.fields.specs.declared.ground.Ground.TheVariants.{UnknownLetter}
 use Rattle.fields.specs.declared.account.Party.{Party}

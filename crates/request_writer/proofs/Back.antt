@@ -1,9 +1,7 @@
 -- A request that passes the tests of its fields, written, reads back as itself.
-use Rattle.std.proofs.Common.{◌≡◌, ℕ, suc, ◌+◌, ◌-◌, ◌*◌, ◌^◌, ◌<◌, ◌≤◌, Bool, true, false, cond, eqb, leb, List, [], ◌∷◌, ◌++◌, length, take, replicate, Some, Ok, Err, decimal, Result, sym, refl, ap, ◌∙◌, subst, arith, length-take-le}
+use Rattle.std.proofs.Common.{◌≡◌, ℕ, ◌+◌, ◌^◌, ◌<◌, ◌≤◌, Bool, true, false, cond, eqb, leb, List, [], ◌∷◌, length, take, Some, Ok, decimal, refl, ap, ◌∙◌, subst, arith, length-take-le}
 use Rattle.std.proofs.lemmas.Bool.{leb-true, and_parts}
 use Rattle.fields.specs.declared.range.Range.{Range}
-use Rattle.fields.specs.declared.answer.Refusal.{Refusal}
-use Rattle.fields.specs.declared.ground.Ground.TheVariants.{BadField}
 use Rattle.fields.specs.Ranges.{is_in_range, minutes, numbers, numbers_or_none, participants, accounts, quantities, days, flags, entry_counts}
 use Rattle.fields.specs.declared.trade.Entry.{Entry}
 use Rattle.fields.specs.declared.trade.Kind.{Kind}
@@ -13,7 +11,7 @@ use Rattle.fields.specs.declared.trade.Side.TheVariants.{Buyer, Seller}
 use Rattle.text.specs.Fields.{number}
 use Rattle.writing.specs.declared.piece.Piece.{Piece}
 use Rattle.writing.specs.Written.{line_of}
-use Rattle.requests.specs.Tests.{Test, tested, entry_tests, fields_pass, field_tests, sold_range, side_call_tests, intermediation_call_tests}
+use Rattle.requests.specs.Tests.{tested, entry_tests, fields_pass, field_tests, sold_range, side_call_tests, intermediation_call_tests}
 use Rattle.requests.proofs.Tested.{AllIn, all_in}
 use Rattle.requests.specs.declared.request.Request.{Request}
 use Rattle.requests.specs.declared.request.Request.TheVariants.{Capture, Cancel, Include, Remove, Confirm, Intermediate, ConfirmIntermediation, ExcludeIntermediation, Close}

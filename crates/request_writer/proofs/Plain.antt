@@ -1,15 +1,14 @@
 -- Figures read back as their number, and fields without commas as themselves.
-use Rattle.std.proofs.Common.{◌≡◌, ℕ, ◌+◌, ◌-◌, ◌*◌, ◌/◌, ◌%◌, ◌^◌, ◌<◌, ◌≤◌, Bool, true, false, cond, ◌&&◌, eqb, leb, List, [], ◌∷◌, ◌++◌, length, get_or, Some, None, decimal, Option, sym, refl, ap, ◌∙◌, subst, append-nil, arith}
+use Rattle.std.proofs.Common.{◌≡◌, ℕ, ◌+◌, ◌-◌, ◌*◌, ◌/◌, ◌%◌, ◌^◌, ◌<◌, ◌≤◌, Bool, true, false, cond, eqb, leb, List, [], ◌∷◌, ◌++◌, length, get_or, Some, None, decimal, refl, ap, ◌∙◌, append-nil, arith}
 use Rattle.std.proofs.lemmas.Fmt.{decimal_by_steps, decimal_nonempty, first_decimal}
 use Rattle.std.proofs.lemmas.Bool.{ne_eqb, leb-true, leb-false, and_parts}
 use Rattle.fields.specs.declared.range.Range.{Range}
 use Rattle.fields.specs.Ranges.{is_in_range}
-use Rattle.text.specs.Fields.{fields, on_first, is_figure, behind, numeral, number, within}
+use Rattle.text.specs.Fields.{fields, is_figure, behind, numeral, number, within}
 use Rattle.text.proofs.Scan.{figure_is, numeral_is}
 use Rattle.writing.proofs.Decimals.{one_figure}
 use Rattle.writing.specs.Written.{bytes_of, commaed, line_of}
 use Rattle.writing.specs.declared.piece.Piece.{Piece}
-use Rattle.writing.specs.declared.piece.Piece.TheVariants.{Letter, Number}
 
 -- no byte is a comma
 abbrev pub NoComma : List ℕ → Type 0

@@ -1,6 +1,5 @@
 -- The canonical line of a request: the one way of writing it.
 use Rattle.std.specs.Prelude.{ℕ, Bool, cond, List, [], ◌∷◌, take}
-use Rattle.fields.specs.declared.account.Party.{Party}
 use Rattle.fields.specs.declared.trade.Entry.{Entry}
 use Rattle.fields.specs.declared.trade.Kind.{Kind}
 use Rattle.fields.specs.declared.trade.Kind.TheVariants.{Selic, Deposited, Registered}

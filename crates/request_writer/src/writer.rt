@@ -77,7 +77,7 @@ fn put_entries(pieces: &mut [Piece], entries: &[Entry])
 
 // The first six pieces, with room for those of sixteen entries behind them.
 fn head_of_inclusion(c: &Inclusion) -> [Piece; 54]
-    ensures { take 6 result ≡ inclusion_head c.now }
+    ensures { take 6 result ≡ inclusion_head c.entry.now }
 {
     let mut pieces = [Piece::Letter(0); 54];
     pieces[0] = Piece::Number(c.minute as u64);
@@ -90,8 +90,8 @@ fn head_of_inclusion(c: &Inclusion) -> [Piece; 54]
 }
 
 fn write_inclusion(out: &mut [u8], c: &Inclusion) -> Result<usize, Refusal>
-    ensures value { result ≡ sent (line_of 73 (inclusion_pieces c.now)) out.old }
-    ensures after { out.new ≡ with_line (line_of 73 (inclusion_pieces c.now)) out.old }
+    ensures value { result ≡ sent (line_of 73 (inclusion_pieces c.entry.now)) out.old }
+    ensures after { out.new ≡ with_line (line_of 73 (inclusion_pieces c.entry.now)) out.old }
     ensures enough { 1135 ≤ length out.old → is_ok result ≡ true }
 {
     let count = c.count.min(16);
@@ -115,8 +115,8 @@ fn write_side_call(out: &mut [u8], letter: u8, c: &SideCall) -> Result<usize, Re
 }
 
 fn write_new_intermediation(out: &mut [u8], c: &NewIntermediation) -> Result<usize, Refusal>
-    ensures value { result ≡ sent (line_of 74 (pieces_of (Intermediate c.now))) out.old }
-    ensures after { out.new ≡ with_line (line_of 74 (pieces_of (Intermediate c.now))) out.old }
+    ensures value { result ≡ sent (line_of 74 (pieces_of (Intermediate c.entry.now))) out.old }
+    ensures after { out.new ≡ with_line (line_of 74 (pieces_of (Intermediate c.entry.now))) out.old }
     ensures enough { 1135 ≤ length out.old → is_ok result ≡ true }
 {
     let i = c.intermediation;
@@ -151,7 +151,7 @@ fn write_intermediation_call(
 
 // An inclusion whose fields pass reads back: its table has room for its entries.
 fn inclusion_law(c: &Inclusion)
-    ensures { ReadsBack (Include c.now) }
+    ensures { ReadsBack (Include c.entry.now) }
 {
     let _all = &c.entries[0..16];
 }

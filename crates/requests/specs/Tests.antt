@@ -1,5 +1,6 @@
 -- The tests of a request's fields, from left to right: the first that is out of range is the refusal.
 use Rattle.std.specs.Prelude.{ℕ, ◌+◌, cond, List, [], ◌∷◌, take, Ok, Err, Result, ◌==◌}
+use Rattle.fields.specs.Refusals.{refused}
 use Rattle.fields.specs.Ranges.{is_in_range, minutes, numbers, numbers_or_none, participants, accounts, quantities, days, entry_counts}
 use Rattle.fields.specs.declared.range.Range.{Range}
 use Rattle.fields.specs.declared.answer.Refusal.{Refusal}
@@ -21,7 +22,7 @@ at k r n = record { place = k; range = r; value = n }
 
 abbrev pub tested : List Test → Result (Unit {0}) Refusal
 tested [] = Ok tt
-tested (t ∷ ts) = cond (is_in_range t.range t.value) (tested ts) (Err (record { ground = BadField; place = t.place }))
+tested (t ∷ ts) = cond (is_in_range t.range t.value) (tested ts) (Err (refused BadField t.place))
 
 -- one leg may be 0, and not both
 abbrev pub sold_range : ℕ → Range

@@ -1,4 +1,6 @@
 // The nine requests, and the tests of their fields.
+#![tactic(auto)]
+
 pub mod check;
 pub mod request;
 

@@ -1,4 +1,6 @@
 // The rows of the book's tables: what they are, what they tell, and how one of them is changed.
+#![tactic(auto)]
+
 pub mod account;
 pub mod hours;
 pub mod in_use;

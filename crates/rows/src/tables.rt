@@ -8,7 +8,7 @@ use keyed::{Checked, Keyed, find, rises};
 
 // Whether the fields in use of each row are in range.
 pub(crate) fn all_good<R: Checked>(rows: &[R]) -> bool
-    ensures { result ≡ all good rows.now }
+    ensures { result ≡ all R.good rows.now }
 {
     for row in rows {
         if !row.is_good() {
@@ -20,7 +20,7 @@ pub(crate) fn all_good<R: Checked>(rows: &[R]) -> bool
 
 // Whether a table has its rows, no more than the limit, and each good.
 pub fn is_whole<R: Checked>(rows: &[R], count: usize, limit: usize) -> bool
-    ensures value { result ≡ whole limit good (table count rows.now) }
+    ensures value { result ≡ whole limit R.good (table count rows.now) }
     ensures within { result ≡ true → count ≤ length rows.now }
     ensures few { result ≡ true → count ≤ limit }
 {
@@ -29,17 +29,17 @@ pub fn is_whole<R: Checked>(rows: &[R], count: usize, limit: usize) -> bool
 
 // Whether a table is whole and its keys rise.
 pub fn stands<R: Keyed + Checked>(rows: &[R], count: usize, limit: usize) -> bool
-    ensures value { result ≡ standing limit key good (table count rows.now) }
+    ensures value { result ≡ standing limit R.key R.good (table count rows.now) }
     ensures within { result ≡ true → count ≤ length rows.now }
     ensures few { result ≡ true → count ≤ limit }
-    ensures rising { result ≡ true → rises_above key 0 (take count rows.now) ≡ true }
+    ensures rising { result ≡ true → rises_above R.key 0 (take count rows.now) ≡ true }
 {
     is_whole(rows, count, limit) && rises(&rows[0..count])
 }
 
 // Whether there is a row with this key.
 pub fn has_key<R: Keyed>(rows: &[R], wanted: u64) -> bool
-    ensures { result ≡ is_some (found key wanted rows.now) }
+    ensures { result ≡ is_some (found R.key wanted rows.now) }
 {
     match find(rows, wanted) {
         Some(_) => true,

@@ -1,7 +1,7 @@
 -- One byte of a field at a time.
 use Rattle.std.proofs.Common.{◌≡◌, ℕ, ◌+◌, ◌-◌, ◌*◌, ◌<◌, ◌≤◌, Bool, true, false, cond, ◌&&◌, eqb, leb, List, [], ◌∷◌, ◌++◌, length, get_or, take, drop, Some, None, Option, sym, refl, ap, ◌∙◌, append_assoc, append-nil, arith}
 use Rattle.std.proofs.lemmas.List.{take_more, take_all, drop_more, drop_all}
-use Rattle.std.proofs.lemmas.Bool.{leb-true, and_parts, ne_eqb, eq-eqb, le-leb, lt-leb, and_from, and_right, cond_both}
+use Rattle.std.proofs.lemmas.Bool.{leb-true, ne_eqb, eq-eqb, le-leb, lt-leb, and_from, and_right, cond_both}
 use Rattle.fields.specs.declared.range.Range.{Range}
 use Rattle.fields.specs.Ranges.{is_in_range}
 use Rattle.text.specs.Fields.{is_figure, behind, numeral, up_to, within, single}

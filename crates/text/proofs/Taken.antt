@@ -1,7 +1,6 @@
 -- A field read from where the reader stands.
-use Rattle.std.proofs.Common.{◌≡◌, ℕ, Bool, true, false, cond, eqb, List, [], ◌∷◌, Some, None, Ok, Err, Option, Result, refl}
+use Rattle.std.proofs.Common.{◌≡◌, ℕ, Bool, true, false, cond, eqb, List, [], ◌∷◌, Some, None, Ok, Err, Option, refl}
 use Rattle.std.proofs.lemmas.Bool.{eq-eqb}
-use Rattle.fields.specs.declared.answer.Refusal.{Refusal}
 use Rattle.fields.specs.declared.ground.Ground.TheVariants.{BadField, FieldCount}
 use Rattle.text.specs.Fields.{fields, on_first}
 use Rattle.text.specs.Cuts.{front, after, left}

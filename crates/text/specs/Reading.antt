@@ -1,5 +1,6 @@
 -- Fields read from left to right: the first fault is the refusal.
 use Rattle.std.specs.Prelude.{ℕ, List, [], ◌∷◌, Some, None, Ok, Err, Option, Result}
+use Rattle.fields.specs.Refusals.{refused}
 use Rattle.fields.specs.declared.answer.Refusal.{Refusal}
 use Rattle.fields.specs.declared.range.Range.{Range}
 use Rattle.fields.specs.declared.ground.Ground.{Ground}
@@ -7,7 +8,7 @@ use Rattle.fields.specs.declared.ground.Ground.TheVariants.{BadField, FieldCount
 use Rattle.text.specs.Fields.{fields, number}
 
 abbrev pub refusal : Ground → ℕ → Refusal
-refusal g k = record { ground = g; place = k }
+refusal g k = refused g k
 
 -- what is read next, unless there was a refusal
 abbrev pub then : {A B : Type 0} → Result A Refusal → (A → Result B Refusal) → Result B Refusal

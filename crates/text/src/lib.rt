@@ -1,4 +1,6 @@
 // Reading fields of bytes that commas part. A reader stands on the comma before a field, or at the end.
+#![tactic(auto)]
+
 pub mod cuts;
 pub mod next;
 pub mod number;

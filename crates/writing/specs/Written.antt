@@ -1,5 +1,6 @@
 -- The bytes of a line, and a buffer with a line in it.
 use Rattle.std.specs.Prelude.{ℕ, zero, suc, cond, List, [], ◌∷◌, ◌++◌, length, Ok, Err, decimal, Result, nat_le}
+use Rattle.fields.specs.Refusals.{refused}
 use Rattle.fields.specs.Grounds.{number_of}
 use Rattle.fields.specs.declared.answer.Answer.{Answer}
 use Rattle.fields.specs.declared.answer.Answer.TheVariants.{Written, Marked}
@@ -42,7 +43,7 @@ over (x ∷ xs) (suc at) bs = x ∷ over xs at bs
 
 -- the answer to writing a line: how many bytes it has, or that the buffer is too short
 abbrev pub sent : List ℕ → List ℕ → Result ℕ Refusal
-sent line out = cond (nat_le (length line) (length out)) (Ok (length line)) (Err (record { ground = BufferShort; place = 0 }))
+sent line out = cond (nat_le (length line) (length out)) (Ok (length line)) (Err (refused BufferShort 0))
 
 -- the buffer then: the line and the bytes behind it, or as it was
 abbrev pub with_line : List ℕ → List ℕ → List ℕ

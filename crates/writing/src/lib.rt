@@ -1,4 +1,6 @@
 // Lines written into a lent buffer: a letter, then fields parted by commas.
+#![tactic(auto)]
+
 pub mod answer;
 pub mod line;
 pub mod pair;

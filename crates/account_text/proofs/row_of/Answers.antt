@@ -1,4 +1,4 @@
-use Rattle.std.proofs.Common.{sym, ◌∙◌, rules}
+use Rattle.std.proofs.Common.{sym, ◌∙◌}
 use Rattle.account_text.proofs.Found.{some_means, none_means, hit, miss, ended}
 use Rattle.account_text.proofs.row_of.Goals as goal
 
@@ -15,5 +15,5 @@ loop-line-preserved-else-row-code c =
 
 pub returns : goal.returns
 returns c =
-    let row = sym (c.loop-line.invariant ∙ ended c.args.code c.loop-line.rest.now c.in-default.ensures) in
+    let row = sym (c.loop-line.invariant ∙ ended c.args.code c.loop-line.rest.now c.in_default.ensures) in
     record { row = row; meant = none_means c.args.code c.args.bytes.now row }

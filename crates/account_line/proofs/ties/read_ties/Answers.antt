@@ -4,13 +4,13 @@ use Rattle.text.specs.Cuts.{left}
 use Rattle.account_line.proofs.Table.{Sofar, faults, one_more, whole}
 use Rattle.account_line.proofs.ties.read_ties.Goals as goal
 
-pub returns-in-err-tie : goal.returns-in-err-tie
-returns-in-err-tie c =
-    let p = err_from_is_err_and c.from-residual.result c.from-residual.ensures.1 in
-    rw (p.1, p.2) (faults _ _ _ _ _ c.loop-i-test.true c.requires c.loop-i.invariant _ c.in-err-tie.ensures)
+pub returns-in_err-tie : goal.returns-in_err-tie
+returns-in_err-tie c =
+    let p = err_from_is_err_and c.from_residual.result c.from_residual.ensures.1 in
+    rw (p.1, p.2) (faults _ _ _ _ _ c.loop-i-test.true c.requires c.loop-i.invariant _ c.in_err-tie.ensures)
 
 pub loop-i-preserved : goal.loop-i-preserved
-loop-i-preserved c = one_more _ _ _ _ _ c.loop-i-test.true c.requires c.loop-i.invariant _ _ c.in-ok-tie.ensures
+loop-i-preserved c = one_more _ _ _ _ _ c.loop-i-test.true c.requires c.loop-i.invariant _ _ c.in_ok-tie.ensures
 
 pub returns : goal.returns
 returns c =

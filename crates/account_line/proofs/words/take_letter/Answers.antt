@@ -1,4 +1,4 @@
-use Rattle.std.proofs.Common.{arith, rules}
+use Rattle.std.proofs.Common.{rules}
 use Rattle.std.proofs.lemmas.Slice.{first_rest}
 use Rattle.account_line.proofs.Fields.{letter_taken}
 use Rattle.account_line.proofs.words.take_letter.Goals as goal

@@ -1,6 +1,5 @@
 use Rattle.std.proofs.Common.{◌≡◌, drop}
-use Rattle.keyed.specs.Lists.{all, any}
-use Rattle.register.specs.Meaning.{same_party}
+use Rattle.keyed.specs.Lists.{all}
 use Rattle.accounts.specs.Rows.{good_party}
 use Rattle.accounts.proofs.ties.all_good.Given as goal
 

@@ -1,9 +1,8 @@
 use Rattle.std.proofs.Common.{sym, ◌∙◌, arith}
 use Rattle.std.proofs.lemmas.List.{at_drop_more, at_drop_all}
 use Rattle.std.proofs.lemmas.Bool.Decides.{nat_tests}
-use Rattle.keyed.specs.Lists.{all, any}
+use Rattle.keyed.specs.Lists.{any}
 use Rattle.register.specs.Meaning.{same_party}
-use Rattle.accounts.specs.Rows.{good_party}
 use Rattle.accounts.proofs.Listed.{no_tie}
 use Rattle.accounts.proofs.ties.has_tie.Goals as goal
 

@@ -1,7 +1,6 @@
 use Rattle.std.proofs.Common.{◌≡◌, drop}
-use Rattle.keyed.specs.Lists.{all, any}
+use Rattle.keyed.specs.Lists.{any}
 use Rattle.register.specs.Meaning.{same_party}
-use Rattle.accounts.specs.Rows.{good_party}
 use Rattle.accounts.proofs.ties.has_tie.Given as goal
 
 abbrev pub invariant-loop-tie : goal.invariant-loop-tie

@@ -6,9 +6,9 @@ pub returns-then-id-eq0 : goal.returns-then-id-eq0
 unfolding beyond
 returns-then-id-eq0 c = search rules
 
-pub returns-in-default : goal.returns-in-default
+pub returns-in_default : goal.returns-in_default
 unfolding beyond
-returns-in-default c = search rules
+returns-in_default c = search rules
 
 pub returns : goal.returns
 unfolding beyond

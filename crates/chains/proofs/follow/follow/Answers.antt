@@ -41,15 +41,15 @@ module _ (new : Option Intermediation) (ts : List Trade) (xs : List Intermediati
       subst (λ (x : Result Chain Refusal). MatchResult x (Followed new ts xs n) (λ g. (chain_with new ts xs n ≡ None) × (g ≡ f))) (sym q)
       (told f (together b n a) o (ap₂ (λ x y. together x n y) (sym e) (sym d)) p)
 
-pub returns-in-default : goal.returns-in-default
-returns-in-default c = (no_back c.args.new c.args.trades.now c.args.intermediations.now (number_at c.args.trades.now c.args.at) c.in-default.ensures.value, refl)
+pub returns-in_default : goal.returns-in_default
+returns-in_default c = (no_back c.args.new c.args.trades.now c.args.intermediations.now (number_at c.args.trades.now c.args.at) c.in_default.ensures.value, refl)
 
-pub returns-in-default-way-over : goal.returns-in-default-way-over
-returns-in-default-way-over c = (no_ahead c.args.new c.args.trades.now c.args.intermediations.now (number_at c.args.trades.now c.args.at) c.in-default-way-over.ensures.value, refl)
+pub returns-in_default-way_over : goal.returns-in_default-way_over
+returns-in_default-way_over c = (no_ahead c.args.new c.args.trades.now c.args.intermediations.now (number_at c.args.trades.now c.args.at) c.in_default-way_over.ensures.value, refl)
 
 pub returns : goal.returns
 returns c =
-    both c.args.new c.args.trades.now c.args.intermediations.now (number_at c.args.trades.now c.args.at) _ _ _ c.together.result c.ok-or.result
-    c.in-Some.ensures.value c.in-Some-way-over.ensures.value
-    (c.together.ensures c.args.trades.now c.in-Some.ensures.findable c.requires c.in-Some-way-over.ensures.findable)
-    c.ok-or.ensures.value
+    both c.args.new c.args.trades.now c.args.intermediations.now (number_at c.args.trades.now c.args.at) _ _ _ c.together.result c.ok_or.result
+    c.in-Some.ensures.value c.in-Some-way_over.ensures.value
+    (c.together.ensures c.args.trades.now c.in-Some.ensures.findable c.requires c.in-Some-way_over.ensures.findable)
+    c.ok_or.ensures.value

@@ -1,5 +1,4 @@
-use Rattle.keyed.proofs.Words.{Some, ◌≡◌, sym, ap, ◌∙◌, ℕ, cond, eq-eqb, ne_eqb, List}
-use Rattle.fields.specs.declared.trade.Intermediation.{Intermediation}
+use Rattle.keyed.proofs.Words.{Some, sym, ap, ◌∙◌, cond, eq-eqb, ne_eqb}
 use Rattle.keyed.proofs.Keys.{found_entered}
 use Rattle.keyed.specs.Rows.{find}
 use Rattle.rows.specs.Legs.{id}
@@ -21,6 +20,6 @@ returns c =
     let x = c.in-Some.entering in
     let n = c.args.id in
     let xs = c.args.rows.now in
-    c.row-with-2.ensures
+    c.row_with-2.ensures
     ∙ sym (ap (λ o. find id n (standing_with o xs)) c.in-Some.is ∙ found_entered id x xs n
     ∙ ap (λ b. cond b (Some x) (find id n xs)) (ne_eqb n x.id (λ e. c.if-entering-id.false (sym e))))

@@ -4,10 +4,10 @@ use Rattle.chains.proofs.Shapes.{all_is}
 use Rattle.completing.specs.Changes.{both}
 use Rattle.completing.proofs.complete.is_complete.Goals as goal
 
-pub returns-then-is-confirmed-2 : goal.returns-then-is-confirmed-2
-returns-then-is-confirmed-2 c =
+pub returns-then-is_confirmed-2 : goal.returns-then-is_confirmed-2
+returns-then-is_confirmed-2 c =
     let e = all_is c.args.chain c.requires.shaped (both c.args.one.now c.args.two.now c.args.trades.now) both_confirmed in search rules
 
-pub returns-else-is-confirmed-2 : goal.returns-else-is-confirmed-2
-returns-else-is-confirmed-2 c =
+pub returns-else-is_confirmed-2 : goal.returns-else-is_confirmed-2
+returns-else-is_confirmed-2 c =
     let e = all_is c.args.chain c.requires.shaped (both c.args.one.now c.args.two.now c.args.trades.now) both_confirmed in search rules

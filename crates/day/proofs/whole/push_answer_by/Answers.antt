@@ -6,5 +6,5 @@ use Rattle.day.proofs.whole.push_answer_by.Goals as goal
 
 pub returns : goal.returns
 returns c =
-    let e = part_is (answer_line c.args.answer) c.args.buffer.now _ _ c.in-Ok.ensures.value c.write-answer.ensures.after in
-    subst (λ l. IfOk c.push-line.result (λ _. vec_items c.push-line.new.out ≡ vec_items c.args.out.now ++ ended l)) e c.push-line.ensures
+    let e = part_is (answer_line c.args.answer) c.args.buffer.now _ _ c.in-Ok.ensures.value c.write_answer.ensures.after in
+    subst (λ l. IfOk c.push_line.result (λ _. vec_items c.push_line.new.out ≡ vec_items c.args.out.now ++ ended l)) e c.push_line.ensures

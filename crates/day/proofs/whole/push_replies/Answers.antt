@@ -7,7 +7,7 @@ pub loop-line-preserved : goal.loop-line-preserved
 loop-line-preserved c =
     let before = vec_items c.loop-line.out in
     let others = replies (lines c.in-Some.behind.now) in
-    ap (λ l. l ++ others) c.in-ok-push-reply.ensures
+    ap (λ l. l ++ others) c.in_ok-push_reply.ensures
     ∙ append_assoc before (ended (reply c.in-Some.line.now)) others
     ∙ ap (λ ls. before ++ replies ls) (sym c.in-Some.ensures.0)
     ∙ c.loop-line.invariant

@@ -6,5 +6,5 @@ use Rattle.day.proofs.whole.push_request_by.Goals as goal
 
 pub returns : goal.returns
 returns c =
-    let e = part_is (request_line c.args.request.now) c.args.buffer.now _ _ c.in-Ok.ensures.value c.write-request.ensures.after in
-    subst (λ l. IfOk c.push-line.result (λ _. vec_items c.push-line.new.out ≡ vec_items c.args.out.now ++ ended l)) e c.push-line.ensures
+    let e = part_is (request_line c.args.request.now) c.args.buffer.now _ _ c.in-Ok.ensures.value c.write_request.ensures.after in
+    subst (λ l. IfOk c.push_line.result (λ _. vec_items c.push_line.new.out ≡ vec_items c.args.out.now ++ ended l)) e c.push_line.ensures

@@ -15,6 +15,6 @@ loop-line-preserved c =
       c.loop-line.invariant.0
           ∙ ap (λ ls. prefixed before (roll_lines k c.loop-line.last ls)) cut.0
           ∙ one_line_more before k c.loop-line.last c.in-Some.line.now others n c.in-Ok.ensures
-          ∙ ap (λ ns. prefixed ns (roll_lines (k + 1) n others)) (sym (pushed (n ∷ []) refl c.in-ok-push.was c.push.ensures.items)),
+          ∙ ap (λ ns. prefixed ns (roll_lines (k + 1) n others)) (sym (pushed (n ∷ []) refl c.in_ok-push.was c.push.ensures.items)),
       omega (arith, c.loop-line.invariant.1, cut.1),
     )

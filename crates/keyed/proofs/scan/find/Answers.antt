@@ -2,8 +2,8 @@ use Rattle.std.proofs.Common.{sym, ◌∙◌, arith}
 use Rattle.keyed.proofs.Steps.{found_at, place_hit, place_miss, place_end}
 use Rattle.keyed.proofs.scan.find.Goals as goal
 
-pub returns-then-key-number-wanted : goal.returns-then-key-number-wanted
-returns-then-key-number-wanted g c =
+pub returns-then-key_number-wanted : goal.returns-then-key_number-wanted
+returns-then-key_number-wanted g c =
     let key = g.R.Keyed.key in
     let is = sym (place_hit key c.args.wanted c.args.rows.now c.loop-i.i _ c.loop-i-test.true c.index-rows-i.is (omega arith)) ∙ c.loop-i.invariant in
     record { place = is; found = found_at key c.args.wanted c.args.rows.now _ is }

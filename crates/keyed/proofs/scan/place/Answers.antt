@@ -2,8 +2,8 @@ use Rattle.std.proofs.Common.{arith}
 use Rattle.keyed.proofs.Steps.{below_hit, below_miss, below_end}
 use Rattle.keyed.proofs.scan.place.Goals as goal
 
-pub returns-then-key-number-wanted : goal.returns-then-key-number-wanted
-returns-then-key-number-wanted g c = record {
+pub returns-then-key_number-wanted : goal.returns-then-key_number-wanted
+returns-then-key_number-wanted g c = record {
   value = omega (arith, below_hit g.R.Keyed.key c.args.wanted c.args.rows.now c.loop-i.i _ c.loop-i-test.true c.index-rows-i.is (omega arith));
   within = omega arith;
 }

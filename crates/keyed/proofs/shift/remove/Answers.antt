@@ -4,7 +4,7 @@ use Rattle.keyed.proofs.shift.remove.Goals as goal
 pub returns : goal.returns
 returns g c =
     let xs = c.args.rows.now in
-    let e = close_at xs c.args.count c.args.at _ c.requires.0 c.requires.1 c.rotate-left.ensures.after in
+    let e = close_at xs c.args.count c.args.at _ c.requires.0 c.requires.1 c.rotate_left.ensures.after in
     record {
       after = e;
       rows = remove_rows xs _ c.args.count c.args.at c.requires.0 c.requires.1 e;

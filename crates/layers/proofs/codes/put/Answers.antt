@@ -1,4 +1,4 @@
-use Rattle.std.proofs.Common.{◌≡◌, take, ap, ◌∙◌, arith}
+use Rattle.std.proofs.Common.{take, ap, ◌∙◌, arith}
 use Rattle.layers.specs.Codes.{rising}
 use Rattle.layers.proofs.Held.{entered_rises}
 use Rattle.layers.proofs.codes.put.Goals as goal

@@ -4,13 +4,13 @@ use Rattle.layers.specs.Codes.{held, rising}
 use Rattle.layers.proofs.Held.{placed_held, others_all, others_rise, taken_out}
 use Rattle.layers.proofs.codes.take_out.Goals as goal
 
-pub returns-in-default : goal.returns-in-default
-returns-in-default c =
+pub returns-in_default : goal.returns-in_default
+returns-in_default c =
     let all = c.args.codes.now in
     let code = c.args.code in
     let z : c.args.count - 0 ≡ c.args.count = omega arith in
     let cs = take c.args.count all in
-    let none : None ≡ place_from (λ n. n) code 0 cs = c.in-default.ensures.place ∙ ap (λ m. place_from (λ n. n) code 0 (take m all)) z in
+    let none : None ≡ place_from (λ n. n) code 0 cs = c.in_default.ensures.place ∙ ap (λ m. place_from (λ n. n) code 0 (take m all)) z in
     let out : held code cs ≡ false = sym (ap is_some none ∙ placed_held code 0 cs) in
     record { codes = λ _. sym (others_all code cs out); rises = λ up. up; fewer = omega arith }
 

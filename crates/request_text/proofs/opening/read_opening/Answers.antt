@@ -5,8 +5,8 @@ use Rattle.request_text.specs.Lines.{opening_letter, opening_of, opening_fields,
 use Rattle.request_text.proofs.Taken.{by_first}
 use Rattle.request_text.proofs.opening.read_opening.Goals as goal
 
-pub returns-in-default : goal.returns-in-default
-returns-in-default c = sym (by_first opening_of opening_letter (λ f fs. refl) c.args.line.now _ (after c.args.line.now) c.in-default.ensures refl)
+pub returns-in_default : goal.returns-in_default
+returns-in_default c = sym (by_first opening_of opening_letter (λ f fs. refl) c.args.line.now _ (after c.args.line.now) c.in_default.ensures refl)
 
 pub returns-then-letter-ne78 : goal.returns-then-letter-ne78
 returns-then-letter-ne78 c =
@@ -18,4 +18,4 @@ pub returns : goal.returns
 returns c =
     let e = c.in-Some.ensures in
     let t : eqb c.in-Some.letter 78 ≡ true = eq-eqb c.in-Some.letter 78 c.if-letter-ne78.false in
-    c.read-fields.ensures ∙ sym (by_first opening_of opening_letter (λ f fs. refl) c.args.line.now _ _ e.0 e.1 ∙ ap (λ b. cond b (opening_fields (left c.in-Some.rest.now)) unknown) t)
+    c.read_fields.ensures ∙ sym (by_first opening_of opening_letter (λ f fs. refl) c.args.line.now _ _ e.0 e.1 ∙ ap (λ b. cond b (opening_fields (left c.in-Some.rest.now)) unknown) t)

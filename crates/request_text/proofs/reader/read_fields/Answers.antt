@@ -2,8 +2,8 @@ use Rattle.std.proofs.Common.{◌≡◌, false, eqb, rules}
 use Rattle.std.proofs.lemmas.Bool.{ne_eqb}
 use Rattle.request_text.proofs.reader.read_fields.Goals as goal
 
-pub returns-in-default : goal.returns-in-default
-returns-in-default c =
+pub returns-in_default : goal.returns-in_default
+returns-in_default c =
     let b = c.args.letter in
     let k : eqb b 67 ≡ false = ne_eqb b 67 (search rules) in
     let x : eqb b 88 ≡ false = ne_eqb b 88 (search rules) in

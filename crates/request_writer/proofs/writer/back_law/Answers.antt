@@ -1,5 +1,5 @@
 use Rattle.request_writer.proofs.Back.{other_back}
 use Rattle.request_writer.proofs.writer.back_law.Goals as goal
 
-pub returns-in-default : goal.returns-in-default
-returns-in-default c = other_back c.args.request.now c.in-default.not-Include
+pub returns-in_default : goal.returns-in_default
+returns-in_default c = other_back c.args.request.now c.in_default.not-Include

@@ -6,7 +6,7 @@ use Rattle.request_writer.proofs.writer.put_entries.Goals as goal
 
 pub loop-i-preserved : goal.loop-i-preserved
 loop-i-preserved c =
-    ap (take (6 + 3 * (c.loop-i.i + 1))) c.put-entry.ensures
+    ap (take (6 + 3 * (c.loop-i.i + 1))) c.put_entry.ensures
     ∙ entry_more c.loop-i.pieces (take 6 c.args.pieces.now) c.args.entries.now c.loop-i.i c.loop-i-test.true (omega arith) c.loop-i.invariant
 
 pub returns : goal.returns

@@ -7,10 +7,10 @@ use Rattle.request_writer.proofs.writer.write_inclusion.Goals as goal
 pub returns : goal.returns
 returns c =
     let n : length c.args.c.now.entries ≡ 16 = search rules in
-    let e = whole c.args.c.now.count c.min-count.result c.args.c.now.entries c.put-entries.new.pieces _ n c.min-count.ensures c.put-entries.ensures
-    ∙ ap (λ l. l ++ entry_pieces (take c.args.c.now.count c.args.c.now.entries)) c.head-of-inclusion-pieces.ensures in
+    let e = whole c.args.c.now.count c.min-count.result c.args.c.now.entries c.put_entries.new.pieces _ n c.min-count.ensures c.put_entries.ensures
+    ∙ ap (λ l. l ++ entry_pieces (take c.args.c.now.count c.args.c.now.entries)) c.head_of_inclusion-pieces.ensures in
     record {
-      value = c.write-line.ensures.value ∙ ap (λ ps. sent (line_of 73 ps) c.args.out.now) e;
-      after = c.write-line.ensures.after ∙ ap (λ ps. with_line (line_of 73 ps) c.args.out.now) e;
-      enough = λ h. c.write-line.ensures.enough (search rules);
+      value = c.write_line.ensures.value ∙ ap (λ ps. sent (line_of 73 ps) c.args.out.now) e;
+      after = c.write_line.ensures.after ∙ ap (λ ps. with_line (line_of 73 ps) c.args.out.now) e;
+      enough = λ h. c.write_line.ensures.enough (search rules);
     }

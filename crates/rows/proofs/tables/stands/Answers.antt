@@ -2,10 +2,10 @@ use Rattle.std.proofs.Common.{rules}
 use Rattle.rows.specs.InUse.{stands}
 use Rattle.rows.proofs.tables.stands.Goals as goal
 
-pub returns-then-is-whole : goal.returns-then-is-whole
+pub returns-then-is_whole : goal.returns-then-is_whole
 unfolding stands
-returns-then-is-whole g c = search rules
+returns-then-is_whole g c = search rules
 
-pub returns-else-is-whole : goal.returns-else-is-whole
+pub returns-else-is_whole : goal.returns-else-is_whole
 unfolding stands
-returns-else-is-whole g c = search rules
+returns-else-is_whole g c = search rules

@@ -4,10 +4,10 @@ use Rattle.text.specs.Fields.{single}
 use Rattle.text.proofs.Taken.{reads_none, reads_some}
 use Rattle.text.proofs.next.read_letter.Goals as goal
 
-pub returns-in-default-split-letter : goal.returns-in-default-split-letter
-returns-in-default-split-letter c =
+pub returns-in_default-split_letter : goal.returns-in_default-split_letter
+returns-in_default-split_letter c =
     let is = first_rest c.args.rest.now 0 (search rules) in
-    reads_none single c.args.place _ _ _ is (search rules) c.in-default-split-letter.ensures
+    reads_none single c.args.place _ _ _ is (search rules) c.in_default-split_letter.ensures
 
 pub returns : goal.returns
 returns c =

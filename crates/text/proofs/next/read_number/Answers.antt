@@ -4,10 +4,10 @@ use Rattle.text.specs.Fields.{number}
 use Rattle.text.proofs.Taken.{reads_none, reads_some}
 use Rattle.text.proofs.next.read_number.Goals as goal
 
-pub returns-in-default-numeral : goal.returns-in-default-numeral
-returns-in-default-numeral c =
+pub returns-in_default-numeral : goal.returns-in_default-numeral
+returns-in_default-numeral c =
     let is = first_rest c.args.rest.now 0 (search rules) in
-    record { reads = reads_none (number c.args.range) c.args.place _ _ _ is (search rules) c.in-default-numeral.ensures; small = tt }
+    record { reads = reads_none (number c.args.range) c.args.place _ _ _ is (search rules) c.in_default-numeral.ensures; small = tt }
 
 pub returns : goal.returns
 returns c =

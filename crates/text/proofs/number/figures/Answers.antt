@@ -1,9 +1,9 @@
-use Rattle.std.proofs.Common.{◌≡◌, sym, ap, ◌∙◌, arith, rules}
+use Rattle.std.proofs.Common.{sym, ap, ◌∙◌, arith, rules}
 use Rattle.std.proofs.lemmas.Slice.{first_rest}
 use Rattle.text.specs.Fields.{up_to}
 use Rattle.text.proofs.Scan.{behind_more, onward_more, over, ended, at_comma}
 use Rattle.text.proofs.number.figures.Goals as goal
-use Rattle.text.proofs.number.figures.Goals.{in-default, in-len1-up+then-b-eq44}
+use Rattle.text.proofs.number.figures.Goals.{in_default, in-len1-up+then-b-eq44}
 
 pub returns-then-total-most : goal.returns-then-total-most
 returns-then-total-most c =
@@ -23,6 +23,6 @@ loop-rest-preserved c =
 pub returns : goal.returns
 returns c =
     elim c.if-rest-lt1.branch [
-      | in-default w ↦ let e = ended c.loop-rest.total c.args.most c.loop-rest.rest.now (omega arith) (search rules) in (ap (up_to c.args.most) c.loop-rest.invariant.1 ∙ e.0, sym (c.loop-rest.invariant.2 ∙ e.1))
+      | in_default w ↦ let e = ended c.loop-rest.total c.args.most c.loop-rest.rest.now (omega arith) (search rules) in (ap (up_to c.args.most) c.loop-rest.invariant.1 ∙ e.0, sym (c.loop-rest.invariant.2 ∙ e.1))
       | in-len1-up+then-b-eq44 w ↦ let e = at_comma c.loop-rest.total c.args.most c.loop-rest.rest.now (omega arith) (search rules) w.if-b-eq44.true in (ap (up_to c.args.most) c.loop-rest.invariant.1 ∙ e.0, sym (c.loop-rest.invariant.2 ∙ e.1))
     ]

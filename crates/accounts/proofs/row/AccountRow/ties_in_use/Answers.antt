@@ -1,4 +1,4 @@
-use Rattle.std.proofs.Common.{◌≡◌, ◌≤◌, length, sym, take_all, rules}
+use Rattle.std.proofs.Common.{◌≤◌, length, sym, take_all, rules}
 use Rattle.accounts.proofs.row.AccountRow.ties_in_use.Goals as goal
 
 pub returns-else-self-lt4 : goal.returns-else-self-lt4
