@@ -1,9 +1,7 @@
 -- One row put in its place.
-use Rattle.keyed.proofs.Words.{List, [], ◌∷◌, ◌≡◌, ap, arith, drop, length, map, refl, sym, take, zero, suc, ℕ, ◌∙◌, ◌<◌, ◌≤◌}
-use Rattle.std.proofs.Common.{get_or, set}
+use Rattle.keyed.proofs.Words.{List, [], ◌∷◌, ◌≡◌, ap, arith, map, refl, sym, take, zero, suc, ℕ, ◌∙◌, ◌<◌}
+use Rattle.std.proofs.Common.{set}
 use Rattle.std.proofs.lemmas.List.{drop-set-lt, get_or-take, length-set}
-use Rattle.keyed.specs.Places.{At}
-use Rattle.keyed.specs.Rows.{Table, changed, changed_in, table}
 use Rattle.rows.specs.Trades.{no_trade, number}
 use Rattle.rows.specs.declared.row.Trade.{Trade}
 use Rattle.chains.specs.Places.{number_at, row_at}

@@ -1,10 +1,10 @@
 -- Changes that keep the numbers keep the places.
-use Rattle.keyed.proofs.Words.{List, None, Option, Some, [], ◌++◌, ◌∷◌, ◌≡◌, ap, cond, eqb, length, map, refl, sym, zero, suc, ℕ, ◌+◌, ◌∙◌, ◌<◌, arith}
+use Rattle.keyed.proofs.Words.{List, Some, [], ◌++◌, ◌∷◌, ◌≡◌, ap, cond, eqb, map, refl, sym, zero, suc, ℕ, ◌+◌, ◌∙◌}
 use Rattle.std.proofs.Common.{get_or, set}
 use Rattle.keyed.proofs.Steps.{found_at}
 use Rattle.keyed.specs.Lists.{or_else}
 use Rattle.keyed.specs.Places.{At, altered, place_from}
-use Rattle.keyed.specs.Rows.{changed, find}
+use Rattle.keyed.specs.Rows.{changed}
 use Rattle.rows.specs.Trades.{no_trade, number, trade_in}
 use Rattle.rows.specs.declared.row.Trade.{Trade}
 use Rattle.chains.specs.Places.{Chain, Findable, Shaped, number_at, numbers_at, places_of, row_at, rows_at}

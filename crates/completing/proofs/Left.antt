@@ -1,14 +1,14 @@
 -- The chain as a request leaves it.
-use Rattle.keyed.proofs.Words.{List, None, Option, Some, [], ◌≡◌, ap, fun_ext, map, refl, sym, ℕ, ◌∙◌}
+use Rattle.keyed.proofs.Words.{List, None, Option, Some, [], ◌≡◌, ap, map, ℕ, ◌∙◌}
 use Rattle.fields.specs.declared.trade.Intermediation.{Intermediation}
 use Rattle.fields.specs.declared.trade.Side.{Side}
 use Rattle.keyed.specs.Lists.{or_else}
 use Rattle.rows.specs.Trades.{number, trade_in}
 use Rattle.rows.specs.declared.row.Trade.{Trade}
 use Rattle.chains.specs.Following.{chain, tie_in}
-use Rattle.chains.specs.Places.{Chain, Followed, chain_with, places_of, rows_at, standing_with, ties_with}
+use Rattle.chains.specs.Places.{Chain, Followed, chain_with, standing_with, ties_with}
 use Rattle.book.specs.Numbering.{chain_confirmed, if_all_confirmed}
-use Rattle.book.specs.State.{State, chain_of}
+use Rattle.book.specs.State.{State}
 use Rattle.completing.specs.Completed.{complete_in}
 use Rattle.completing.proofs.Kept.{rows_kept}
 

@@ -1,5 +1,5 @@
 -- The chain that changes complete.
-use Rattle.std.specs.Prelude.{ℕ, ◌<◌, List, [], length, Some, None, Option}
+use Rattle.std.specs.Prelude.{ℕ, ◌<◌, List, [], Some, None, Option}
 use Rattle.rows.specs.declared.row.Trade.{Trade}
 use Rattle.chains.specs.Places.{Chain, Shaped, places_of, rows_at}
 use Rattle.book.specs.Numbering.{if_all_confirmed}

@@ -1,4 +1,6 @@
 // Whether a request completes a chain, judged before anything is written; and the chain numbered.
+#![tactic(auto)]
+
 pub mod change;
 pub mod complete;
 pub mod edit;

@@ -1,4 +1,6 @@
 // A whole day, from the bytes of its texts to the bytes of its answers.
+#![tactic(auto)]
+
 pub mod whole;
 
 pub use whole::{Files, run};

@@ -1,4 +1,6 @@
 // The two files of a day that hold a number on each line.
+#![tactic(auto)]
+
 pub mod holds;
 pub mod roll;
 

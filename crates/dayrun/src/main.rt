@@ -1,4 +1,6 @@
 // Runs a day: reads accounts.txt, holds.txt, roll.txt and the standard input, and prints the answers.
+#![tactic(auto)]
+
 use day::run;
 use std::io::Read;
 use std::rt::Files;

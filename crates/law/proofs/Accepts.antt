@@ -1,6 +1,6 @@
 -- Every accepted request keeps the book sound.
 use Rattle.keyed.proofs.Words.{Bool, true, false, not, ◌&&◌, cond, List, [], ◌∷◌, map, ⊎_elim, ◌≡◌, refl, sym, ap, ap₂, subst, ◌∙◌, ℕ, ◌+◌, ◌≤◌, eqb, length, cases_eq, eq-eqb, both_ways, and_parts, and_from, Some, None}
-use Rattle.law.proofs.Subject.{numbers, Intermediation, Side, Buyer, Seller, Terms, or_else, is_some, any, find, Listed, Inclusion, IntermediationCall, NewIntermediation, NewTrade, Request, Capture, Cancel, Include, Remove, Confirm, Intermediate, ConfirmIntermediation, ExcludeIntermediation, Close, SideCall, is_confirmed, emptied, confirmed, id, no_intermediation, any_leg, both_legs, number, allocation, at_side, captured, alike, AllocationState, Empty, Confirmed, KeptEntry, Trade, cancelled, placed, whole_entry, kept_entry, entries_of, included, intermediated, numbers_in, confirms_in, completed, effect, State, trade, intermediation}
+use Rattle.law.proofs.Subject.{Intermediation, Side, Buyer, Seller, Terms, or_else, is_some, any, find, Listed, Inclusion, IntermediationCall, NewIntermediation, NewTrade, Request, Capture, Cancel, Include, Remove, Confirm, Intermediate, ConfirmIntermediation, ExcludeIntermediation, Close, SideCall, is_confirmed, emptied, confirmed, id, no_intermediation, any_leg, both_legs, number, allocation, at_side, captured, alike, AllocationState, Empty, Confirmed, KeptEntry, Trade, placed, whole_entry, kept_entry, entries_of, included, intermediated, numbers_in, confirms_in, completed, effect, State, trade, intermediation}
 use Rattle.keyed.proofs.Keys.{rises_changed, rises_entered}
 use Rattle.keyed.proofs.Lists.{none_by}
 use Rattle.rows.proofs.Sides.{alike_parts, filled_state, filled_tie}

@@ -1,6 +1,6 @@
 -- An intermediation excluded, and a trade cancelled.
 use Rattle.keyed.proofs.Words.{true, false, List, ⊎_elim, ◌≡◌, refl, sym, ap, subst, ◌∙◌, ℕ, arith, cond_both, cases_eq, both_ways, and_parts, and_from, Option, Some, None}
-use Rattle.law.proofs.Subject.{numbers, Intermediation, Buyer, Seller, or_else, is_some, any, find, removed_in, Listed, Cancellation, IntermediationCall, Cancel, ExcludeIntermediation, emptied, id, no_intermediation, any_leg, number, at_side, both_confirmed, numbered_in, excluded, cancelled, placed, called_off, marked, excluded_by, completed, effect, State, trade, intermediation, with_intermediations, at_trade}
+use Rattle.law.proofs.Subject.{Intermediation, Buyer, Seller, or_else, is_some, any, find, removed_in, Listed, Cancellation, IntermediationCall, Cancel, ExcludeIntermediation, emptied, id, no_intermediation, any_leg, number, at_side, both_confirmed, numbered_in, excluded, cancelled, placed, called_off, marked, excluded_by, completed, effect, State, trade, intermediation, with_intermediations, at_trade}
 use Rattle.keyed.proofs.Keys.{rises_changed, rises_removed, below_absent}
 use Rattle.keyed.proofs.Lists.{none_some}
 use Rattle.chains.proofs.Walk.{Not0}

@@ -1,6 +1,6 @@
 -- The entries that a confirming request leaves are positive.
 use Rattle.keyed.proofs.Words.{Bool, true, false, cond, ◌&&◌, ◌||◌, List, [], ◌∷◌, map, inl, inr, ◌≡◌, refl, sym, ap, subst, ◌∙◌, ℕ, ◌<◌, arith, take, and_parts, or_cases, Some}
-use Rattle.law.proofs.Subject.{is_in_range, numbers_or_none, numbers, quantities, Side, Buyer, Seller, or_else, all, Each, changed, Listed, Request, held, is_empty, confirmed, entries_held, good_trade, id, leg, number, allocation, at_side, no_trade, Allocation, KeptEntry, Trade, placed, whole_entry, kept_entry, entries_of, confirms_in, State, trade, intermediation}
+use Rattle.law.proofs.Subject.{is_in_range, numbers_or_none, numbers, quantities, Side, Buyer, Seller, or_else, all, Each, changed, Listed, Request, held, is_empty, confirmed, entries_held, good_trade, leg, number, allocation, at_side, no_trade, Allocation, KeptEntry, Trade, placed, whole_entry, kept_entry, entries_of, confirms_in, State, intermediation}
 use Rattle.fields.specs.Ranges.{entry_counts}
 use Rattle.keyed.proofs.Keys.{row_found, each_changed}
 use Rattle.rows.proofs.Sides.{held_confirmed, held_filled}

@@ -1,6 +1,6 @@
 -- On which grounds a request is not refused.
 use Rattle.keyed.proofs.Words.{Bool, false, true, cond, List, [], ◌∷◌, ap, refl, sym, ◌≡◌, ◌∙◌, ℕ, ◌+◌, arith, eqb, both_ways, eq-eqb, Option, None, Some}
-use Rattle.law.proofs.Subject.{number_of, Refusal, Entry, Intermediation, Kind, Pair, Side, Buyer, Seller, Terms, Table, Listed, Closing, Request, Cancel, Capture, Close, Confirm, ConfirmIntermediation, ExcludeIntermediation, Include, Intermediate, Remove, held, other, has_leg, allocation, AllocationState, KeptEntry, Trade, entries_of, shown, fields_verdict, completed, State, in_turn, only_if, account_verdict, capture_verdict, completed_verdict, each_leg_verdict, empty_verdict, entries_verdict, entry_verdict, id_verdict, inclusion_verdict, intermediary_verdict, leg_tied_verdict, numbers_verdict, side_verdict, sides_verdict, tables_verdict, ties_verdict, unnumbered_verdict}
+use Rattle.law.proofs.Subject.{number_of, Refusal, Entry, Intermediation, Kind, Pair, Side, Buyer, Seller, Terms, Table, Listed, Closing, Request, held, other, has_leg, allocation, AllocationState, KeptEntry, Trade, shown, fields_verdict, completed, State, in_turn, only_if, account_verdict, capture_verdict, completed_verdict, each_leg_verdict, empty_verdict, entries_verdict, entry_verdict, id_verdict, inclusion_verdict, intermediary_verdict, leg_tied_verdict, numbers_verdict, side_verdict, sides_verdict, tables_verdict, ties_verdict, unnumbered_verdict}
 use Rattle.std.proofs.lemmas.Bool.Decides.{nat_tests}
 use Rattle.fields.specs.declared.account.AccountType.{AccountType}
 use Rattle.fields.specs.Ranges.{is_in_range}

@@ -1,6 +1,6 @@
 -- A numbered chain stays as it is until the closing.
 use Rattle.keyed.proofs.Words.{false, true, List, [], ◌∷◌, ⊎_elim, refl, subst, sym, ◌≡◌, ◌∙◌, ℕ, cases_Bool, Option, None, Some}
-use Rattle.law.proofs.Subject.{Refusal, Each, all, Beginning, Call, History, Run, begun, ran, stepped, State, trade, outcome, step, verdict, closes}
+use Rattle.law.proofs.Subject.{Refusal, Each, Beginning, Call, History, Run, begun, ran, stepped, State, trade, outcome, step, verdict, closes}
 use Rattle.keyed.proofs.Lists.{each_map}
 use Rattle.law.proofs.Books.{Sound}
 use Rattle.law.proofs.Every.{Held, frozen_on, held_begun, held_ran, held_step, olds_kept}

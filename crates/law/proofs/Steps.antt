@@ -1,6 +1,6 @@
 -- Every request keeps the pairs lawful.
 use Rattle.keyed.proofs.Words.{true, false, ◌&&◌, List, [], ◌∷◌, ◌++◌, map, ◌⊎◌, inl, inr, ⊎_elim, ◌≡◌, refl, sym, ap, ap₂, subst, ◌∙◌, ℕ, ◌≤◌, ◌<◌, eqb, length, cases_eq, ne_eqb, eq-eqb, both_ways, and_parts, Some}
-use Rattle.law.proofs.Subject.{numbers, Pair, Side, Buyer, Seller, is_some, those, Each, Table, find, Listed, Request, is_confirmed, total, entries_held, number, numbered, Trade, trade_in, last_of, chain_matches, issuer, new_pairs, all_numbered, numbering, confirms_in, with_numbers, History, Beginning, State, trade, Sides, Pairs, final, pairs_of}
+use Rattle.law.proofs.Subject.{Pair, Side, Buyer, Seller, is_some, those, Each, Table, find, Listed, Request, is_confirmed, total, entries_held, number, numbered, Trade, trade_in, last_of, chain_matches, issuer, new_pairs, all_numbered, numbering, confirms_in, with_numbers, History, Beginning, State, trade, Sides, Pairs, final, pairs_of}
 use Rattle.rows.proofs.Sides.{confirmed_filled, some_entries}
 use Rattle.chains.proofs.Matches.{all_name}
 use Rattle.chains.proofs.Ties.{first_is}

@@ -1,5 +1,5 @@
 -- Requests for an intermediation, and a cancellation.
-use Rattle.keyed.proofs.Words.{Bool, true, false, cond, ◌&&◌, ◌||◌, List, [], ◌∷◌, map, ⊎_elim, ◌≡◌, refl, sym, ap, ap₂, subst, ◌∙◌, ℕ, ◌<◌, zero, arith, eqb, cases_Bool, and_parts, and_from, Option, Some, None}
+use Rattle.keyed.proofs.Words.{Bool, true, false, cond, ◌&&◌, ◌||◌, List, [], ◌∷◌, map, ⊎_elim, ◌≡◌, refl, sym, ap, ap₂, subst, ◌∙◌, ℕ, ◌<◌, arith, eqb, cases_Bool, and_parts, and_from, Option, Some, None}
 use Rattle.law.proofs.Subject.{Answer, Written, Marked, Entry, Intermediation, Side, Buyer, Seller, Terms, or_else, is_some, those, any, find, changed, removed, rises_above, Listed, account_in, tied_in, Cancellation, IntermediationCall, NewIntermediation, Cancel, Intermediate, ConfirmIntermediation, ExcludeIntermediation, active, suits, held, is_empty, confirmed, total, no_intermediation, id, leg, has_leg, number, allocation, party, no_trade, both_confirmed, Allocation, Empty, Confirmed, KeptEntry, Trade, trade_in, excluded, cancelled, placed, called_off, marked, whole_entry, kept_entry, shown, no_account, intermediated, reply, State, trade, intermediation, at_trade, as_plain, Chains, touched, Plain, plain_number, side_now, all_gone, names, fed, filled_as, holds_side, Filling, terms_in, empties, fills, leaves}
 use Rattle.keyed.proofs.Keys.{seen_kept, each_changed, map_changed, length_changed}
 use Rattle.keyed.proofs.Lists.{some_of, none_some}

@@ -14,7 +14,7 @@ use Rattle.keyed.specs.Rows.{find}
 use Rattle.register.specs.Meaning.{Listed, account_in, tied_in}
 use Rattle.rows.specs.Accounts.{active, is_selic, suits}
 use Rattle.rows.specs.Allocations.{entries_held, held, is_empty, total}
-use Rattle.rows.specs.Legs.{id, leg}
+use Rattle.rows.specs.Legs.{leg}
 use Rattle.rows.specs.Trades.{alike, allocation, both_confirmed, number, party}
 use Rattle.rows.specs.declared.row.KeptEntry.{KeptEntry}
 use Rattle.rows.specs.declared.row.Trade.{Trade}

@@ -1,3 +1,5 @@
+#![tactic(auto)]
+
 // Request lines that do not read, each with its refusal.
 #[cfg(test)]
 mod tests {

@@ -1,4 +1,6 @@
 // Tests that several requests share: of the tables, of a trade and its chain, and of a side.
+#![tactic(auto)]
+
 pub mod closing;
 pub mod sides;
 pub mod tables;

@@ -1,4 +1,4 @@
-use Rattle.std.proofs.Common.{◌≡◌, ◌+◌, ◌≤◌, ◌++◌, length, vec_items}
+use Rattle.std.proofs.Common.{◌≡◌, ◌+◌, ◌≤◌, length, vec_items}
 use Rattle.text.specs.Fields.{lines}
 use Rattle.day_files.specs.Files.{roll_lines}
 use Rattle.day_files.proofs.Prefixed.{prefixed}
