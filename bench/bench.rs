@@ -5,8 +5,6 @@ use std::time::Instant;
 unsafe extern "C" {
     fn probe_read(line: *const u8, len: usize) -> u64;
 }
-#[link(name = "rattle_c", kind = "static")]
-unsafe extern "C" {}
 
 #[derive(Clone, Copy)]
 pub struct Entry { account: u32, quantity: u32, client: u32 }
