@@ -6,7 +6,7 @@ ghost use Rattle.keyed.specs.Members.{Each};
 ghost use Rattle.keyed.specs.Rows.{find as found};
 ghost use Rattle.rows.specs.Legs.{id as key};
 ghost use Rattle.rows.specs.Trades.{allocation, number as number_in};
-ghost use Rattle.chains.specs.Following.{beyond as beyond_by, by_intermediation, tie_in, together as together_by, way as WayBy};
+ghost use Rattle.chains.specs.Following.{beyond as beyond_by, by_intermediation, tie_in, together as together_by, way as way_by};
 ghost use Rattle.chains.specs.Places.{Findable, Followed, NextFindable, PlacedIf, WayFindable, beyond_at, chain_with, number_at, numbers_at, numbers_on, places_of, places_on, standing_with, ties_with};
 
 use fields::{Ground, Intermediation, Refusal, Side};
@@ -121,7 +121,7 @@ fn way_over(
 ) -> Option<Way>
     requires { Findable trades.now at }
     ensures findable { WayFindable trades.now result }
-    ensures value { numbers_on trades.now result ≡ WayBy (ties_with new (tie_in trades.now)) (standing_with new intermediations.now) side 3 (number_at trades.now at) }
+    ensures value { numbers_on trades.now result ≡ way_by (ties_with new (tie_in trades.now)) (standing_with new intermediations.now) side 3 (number_at trades.now at) }
 {
     match beyond(trades, intermediations, new, side, at) {
         Next::Nothing => Some(Way::Here),

@@ -8,7 +8,7 @@ use Rattle.chains.proofs.Puts.{put_same}
 use Rattle.chains.proofs.Ties.{put_on}
 use Rattle.chains.proofs.Walk.{put, Not0, Walk, far, joined}
 use Rattle.chains.proofs.Walks.{put_cases, put_off, far_next, far_far, member}
-use Rattle.book.specs.Effects.{marked as MarkedRow}
+use Rattle.book.specs.Effects.{marked as marked_row}
 use Rattle.law.proofs.Shown.{common, shows, Here, None0, left, made, Only, buyer_view, seller_view, both_view, same_sides, is_numbered_trade, is_void, of_chain, rows_view, trade_put}
 use Rattle.law.proofs.Views.{View, next, prev, sides, link, captured, voided, exclude, re_numbered, with_sides, with_ties}
 
@@ -108,12 +108,12 @@ captured_view t ts xs ps z a =
     there m = ap (or_else no_trade) (row_entered number (captured_row t) ts m a) ∙ put_cond (or_else no_trade) m
 
 pub marked_view : (n : ℕ) (ts : List Trade) (xs : List Intermediation) (ps : List Pair) → Here n ts → None0 ts
-    → shows (changed number n MarkedRow ts) xs ps ≡ shows ts xs ps
+    → shows (changed number n marked_row ts) xs ps ≡ shows ts xs ps
 marked_view n ts xs ps h z =
-    let us = changed number n MarkedRow ts in
-    let u = MarkedRow (trade_in ts n) in
-    let e = trade_put n MarkedRow ts (λ _. refl) h z in
-    λ j. rows_view (fun_ext (still_there number MarkedRow (λ _. refl) n ts) j) (left us ts n u e is_void (λ _. refl) j) (left us ts n u e is_numbered_trade (λ _. refl) j)
+    let us = changed number n marked_row ts in
+    let u = marked_row (trade_in ts n) in
+    let e = trade_put n marked_row ts (λ _. refl) h z in
+    λ j. rows_view (fun_ext (still_there number marked_row (λ _. refl) n ts) j) (left us ts n u e is_void (λ _. refl) j) (left us ts n u e is_numbered_trade (λ _. refl) j)
     (left us ts n u e of_chain (λ _. refl) j) (left us ts n u e (λ t. t.buyer.state) (λ _. refl) j) (left us ts n u e (λ t. t.seller.state) (λ _. refl) j)
     (left us ts n u e (λ t. t.buyer.tie) (λ _. refl) j) (left us ts n u e (λ t. t.seller.tie) (λ _. refl) j) xs ps
 

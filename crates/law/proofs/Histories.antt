@@ -121,7 +121,7 @@ issued_none b h e selic control none i = record {
   control_numbers = ap (λ l. l ++ control) (given_none false b.day h e none) ∙ i.control_numbers;
 }
 
--- where an issuer's list stands: for `pairs-paired`
+-- where an issuer's list stands: for `pairs_paired`
 pub begun_before : (b : Beginning) (h : History) (k : Bool) (selic control : List ℕ) → Issued b h selic control
     → cond k b.selic b.control ≡ given k b.day h ++ cond k selic control
 begun_before b h true selic control i = sym i.selic_numbers

@@ -1,6 +1,6 @@
+// Request lines that do not read, each with its refusal.
 #![tactic(auto)]
 
-// Request lines that do not read, each with its refusal.
 #[cfg(test)]
 mod tests {
     use fields::Refusal;
