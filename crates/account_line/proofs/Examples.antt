@@ -3,21 +3,21 @@ use Rattle.std.proofs.Common.{◌≡◌, true, false, [], ◌∷◌, Ok, Err, co
 use Rattle.fields.specs.declared.account.AccountType.TheVariants.{SL, C1}
 use Rattle.fields.specs.declared.account.Status.TheVariants.{Active, Blocked}
 use Rattle.fields.specs.declared.ground.Ground.TheVariants.{BadField, FieldCount}
+use Rattle.text.specs.Groups.{party_group}
 use Rattle.text.specs.Reading.{refusal}
 use Rattle.account_line.specs.Line.{account}
-use Rattle.account_line.specs.Ties.{blank}
 
 one_tie : account (codes "11,SL,A,50,S,1,1,7") ≡ Ok record {
   account = record { code = 11; class = SL; status = Active; day = 50; markets = record { selic = true; deposited = false; registered = false } };
   tie_count = 1;
-  ties = record { participant = 1; offeror = 7 } ∷ blank ∷ blank ∷ blank ∷ [];
+  ties = record { participant = 1; offeror = 7 } ∷ party_group.blank ∷ party_group.blank ∷ party_group.blank ∷ [];
 }
 one_tie = refl
 
 same_tie_twice : account (codes "99999999,C1,B,99999,DR,2,1,65535,1,65535") ≡ Ok record {
   account = record { code = 99999999; class = C1; status = Blocked; day = 99999; markets = record { selic = false; deposited = true; registered = true } };
   tie_count = 2;
-  ties = record { participant = 1; offeror = 65535 } ∷ record { participant = 1; offeror = 65535 } ∷ blank ∷ blank ∷ [];
+  ties = record { participant = 1; offeror = 65535 } ∷ record { participant = 1; offeror = 65535 } ∷ party_group.blank ∷ party_group.blank ∷ [];
 }
 same_tie_twice = refl
 

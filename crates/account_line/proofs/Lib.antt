@@ -1,3 +1,1 @@
 mod Examples
-pub mod Fields
-pub mod Table

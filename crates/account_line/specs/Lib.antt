@@ -1,3 +1,1 @@
 pub mod Line
-pub mod Ties
-pub mod Words

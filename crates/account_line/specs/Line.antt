@@ -1,14 +1,12 @@
 -- An account line, field by field from left to right.
-use Rattle.std.specs.Prelude.{ℕ, ◌+◌, ◌*◌, List, Ok, Err, Result}
-use Rattle.std.specs.Borrow.{Bor}
+use Rattle.std.specs.Prelude.{ℕ, ◌+◌, ◌*◌, List, Ok, Result}
 use Rattle.fields.specs.Ranges.{from_to, accounts, days}
 use Rattle.fields.specs.declared.answer.Refusal.{Refusal}
-use Rattle.text.specs.Cuts.{left}
 use Rattle.text.specs.Fields.{fields, number}
+use Rattle.text.specs.Groups.{party_group, table}
 use Rattle.text.specs.Reading.{field, end, then}
+use Rattle.text.specs.Words.{class, status, markets}
 use Rattle.accounts.specs.declared.row.AccountRow.{AccountRow}
-use Rattle.account_line.specs.Ties.{table}
-use Rattle.account_line.specs.Words.{class, status, markets}
 
 -- type,status,day,markets,n behind the code, and n times participant,offeror
 abbrev pub behind_code : ℕ → List (List ℕ) → Result AccountRow Refusal
@@ -18,7 +16,7 @@ behind_code code fs =
     then (field (number days) 4 s.1) (λ d.
     then (field markets 5 d.1) (λ m.
     then (field (number (from_to 1 4)) 6 m.1) (λ n.
-    then (table n.0 n.1) (λ ts.
+    then (table party_group 4 n.0 7 n.1) (λ ts.
     then (end (7 + 2 * n.0) ts.1) (λ _.
     Ok (record {
       account = record { code = code; class = t.0; status = s.0; day = d.0; markets = m.0 };
@@ -33,8 +31,3 @@ account_of fs = then (field (number accounts) 1 fs) (λ c. behind_code c.0 c.1)
 -- what a line says of an account, or why it is bad
 abbrev pub account : List ℕ → Result AccountRow Refusal
 account bs = account_of (fields bs)
-
--- what a reader of a whole field returns, by the fields that it leaves
-abbrev pub seen_field : Result (Bor (List ℕ) × Bor (List ℕ)) Refusal → Result (List ℕ × List (List ℕ)) Refusal
-seen_field (Ok p) = Ok (p.0.now, left p.1.now)
-seen_field (Err e) = Err e

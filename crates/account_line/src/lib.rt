@@ -2,7 +2,5 @@
 #![tactic(auto)]
 
 pub mod reader;
-mod ties;
-mod words;
 
 pub use reader::read_account;

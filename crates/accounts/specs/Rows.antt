@@ -1,11 +1,11 @@
 -- What a table of account rows means.
-use Rattle.std.specs.Prelude.{◌≡◌, ℕ, ◌<◌, ◌≤◌, Bool, ◌&&◌, List, [], ◌∷◌, map, take, nat_lt}
+use Rattle.std.specs.Prelude.{◌≡◌, ℕ, ◌≤◌, Bool, ◌&&◌, List, map, take}
 use Rattle.std.proofs.Common.{subst, arith}
-use Rattle.std.proofs.lemmas.Bool.{and_parts, ltb-true, cond_both}
-use Rattle.fields.specs.Ranges.{is_in_range, from_to, accounts, days, participants}
+use Rattle.fields.specs.Ranges.{is_in_range, from_to, accounts, days}
 use Rattle.fields.specs.declared.account.Party.{Party}
-use Rattle.keyed.specs.Fronts.{rising_front}
+use Rattle.keyed.specs.Fronts.{rising_front, rising_front_holds}
 use Rattle.keyed.specs.Lists.{all}
+use Rattle.keyed.specs.Plain.{good_party}
 use Rattle.register.specs.Meaning.{Listed, Absent, Apart}
 use Rattle.accounts.specs.declared.row.AccountRow.{AccountRow}
 
@@ -19,9 +19,6 @@ in_use r = take r.tie_count r.ties
 abbrev pub listed : AccountRow → Listed
 listed r = record { account = r.account; ties = in_use r }
 
-abbrev pub good_party : Party → Bool
-good_party p = is_in_range participants p.participant && is_in_range participants p.offeror
-
 -- the fields in use are in range; any set of markets is, an empty one too
 abbrev pub good_row : AccountRow → Bool
 good_row r = is_in_range accounts (row_code r) && is_in_range days r.account.day && is_in_range (from_to 1 4) r.tie_count && all good_party (in_use r)
@@ -30,25 +27,15 @@ good_row r = is_in_range accounts (row_code r) && is_in_range days r.account.day
 abbrev pub sound : List AccountRow → List AccountRow
 sound rs = rising_front row_code good_row 0 rs
 
-abbrev front : ℕ → List AccountRow → List AccountRow
-front k rs = rising_front row_code good_row k rs
+-- none of the codes up to k is in it, and none is in it twice
+abbrev IsAbove : ℕ → List AccountRow → Type 0
+IsAbove k rs = ((code : ℕ) → code ≤ k → Absent code (map listed rs)) × Apart (map listed rs)
 
-above : (code k : ℕ) (rs : List AccountRow) → code ≤ k → Absent code (map listed (front k rs))
-above code k [] h = tt
-above code k (r ∷ rs) h =
-    cond_both (nat_lt k (row_code r) && good_row r) (r ∷ front (row_code r) rs) [] (λ ys. Absent code (map listed ys))
-    (λ e.
-    let up : k < row_code r = ltb-true k (row_code r) (and_parts (nat_lt k (row_code r)) (good_row r) e).0 in
-    (λ same. omega arith, above code (row_code r) rs (omega arith)))
-    (λ _. tt)
-
-front_apart : (k : ℕ) (rs : List AccountRow) → Apart (map listed (front k rs))
-front_apart k [] = tt
-front_apart k (r ∷ rs) =
-    cond_both (nat_lt k (row_code r) && good_row r) (r ∷ front (row_code r) rs) [] (λ ys. Apart (map listed ys))
-    (λ e. (above (row_code r) (row_code r) rs (omega arith), front_apart (row_code r) rs))
-    (λ _. tt)
+front_above : (k : ℕ) (rs : List AccountRow) → IsAbove k (rising_front row_code good_row k rs)
+front_above =
+    rising_front_holds row_code good_row IsAbove (λ _. (λ _ _. tt, tt))
+    (λ k r rs up good above. (λ code low. (λ same. omega arith, above.0 code (omega arith)), (above.0 (row_code r) (omega arith), above.1)))
 
 -- no code occurs twice in a table that is sound throughout
 pub rows_apart : (rs : List AccountRow) → sound rs ≡ rs → Apart (map listed rs)
-rows_apart rs e = subst (λ ys. Apart (map listed ys)) e (front_apart 0 rs)
+rows_apart rs e = subst (λ ys. Apart (map listed ys)) e (front_above 0 rs).1

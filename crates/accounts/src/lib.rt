@@ -3,7 +3,6 @@
 
 pub mod row;
 pub mod table;
-mod ties;
 
 pub use row::AccountRow;
 pub use table::AccountTable;

@@ -4,16 +4,15 @@ ghost use Rattle.keyed.specs.Lists.{any};
 ghost use Rattle.register.specs.Meaning.{same_party};
 ghost use Rattle.accounts.specs.Rows.{row_code, in_use, good_row};
 
-use crate::ties::{all_good, has_tie};
 use fields::range::{ACCOUNT, DAY};
 use fields::{Account, Party, Range};
-use keyed::{Checked, Keyed};
+use keyed::{Checked, Keyed, all_good};
 
 // how many ties an account has
 pub const TIES: Range = Range { least: 1, most: 4 };
 
-// The first `tie_count` ties are in use.
-#[derive(Clone, Copy)]
+// The first `tie_count` ties are in use. The caller lends rows with any numbers in them, so the count stands beside the table.
+#[derive(Clone, Copy, Debug, PartialEq, Eq)]
 pub struct AccountRow {
     pub account: Account,
     pub tie_count: usize,
@@ -25,18 +24,14 @@ impl AccountRow {
     pub fn is_tied(&self, party: Party) -> bool
         ensures { result ≡ any (same_party party) (in_use self.now) }
     {
-        has_tie(self.ties_in_use(), party)
+        self.ties_in_use().contains(&party)
     }
 
     // The ties in use.
     fn ties_in_use(&self) -> &[Party]
         ensures { result.now ≡ in_use self.now }
     {
-        if self.tie_count < 4 {
-            &self.ties[0..self.tie_count]
-        } else {
-            &self.ties
-        }
+        &self.ties[..self.tie_count.min(self.ties.len())]
     }
 }
 

@@ -1,5 +1,5 @@
 -- What an accepted request changes, before any chain is numbered.
-use Rattle.std.specs.Prelude.{ℕ, Bool, true, false, cond, List, Some, None, Option}
+use Rattle.std.specs.Prelude.{ℕ, Bool, cond, List, Some, None, Option}
 use Rattle.fields.specs.declared.trade.Intermediation.{Intermediation}
 use Rattle.fields.specs.declared.trade.Side.{Side}
 use Rattle.fields.specs.declared.trade.Side.TheVariants.{Buyer, Seller}
@@ -9,9 +9,8 @@ use Rattle.requests.specs.declared.request.Request.{Request}
 use Rattle.requests.specs.declared.request.Request.TheVariants.{Cancel, Capture, Close, Confirm, ConfirmIntermediation, ExcludeIntermediation, Include, Intermediate, Remove}
 use Rattle.rows.specs.Allocations.{confirmed, emptied}
 use Rattle.rows.specs.Legs.{id, leg}
-use Rattle.rows.specs.Trades.{at_side, both_confirmed, captured, in_state, number}
+use Rattle.rows.specs.Trades.{at_side, both_confirmed, cancelled, captured, marked, number}
 use Rattle.rows.specs.declared.row.Trade.{Trade}
-use Rattle.rows.specs.declared.row.TradeState.TheVariants.{Cancelled}
 use Rattle.book.specs.Entries.{included, intermediated}
 use Rattle.book.specs.State.{State, at_trade, intermediation, trade, with_intermediations, with_trades}
 
@@ -25,15 +24,8 @@ unfoldable pub excluded : ℕ → State → State
 excluded n s = excluded_by (find id n s.intermediations.rows) n s
 
 -- X: the trade's intermediations go as by E, its sides are emptied, its state is cancelled and its mark taken away
-abbrev pub cancelled : Trade → Trade
-cancelled t = in_state Cancelled false (at_side Buyer emptied (at_side Seller emptied t))
-
 abbrev pub called_off : ℕ → Trade → State → State
 called_off n t s = at_trade n cancelled (excluded t.seller.tie (excluded t.buyer.tie s))
-
--- X with both sides confirmed: cancelled in the trading system only
-abbrev pub marked : Trade → Trade
-marked t = in_state t.state true t
 
 -- J: a leg's side is filled and held
 abbrev pub filled_leg : List Listed → Intermediation → Bool → Side → State → State

@@ -18,7 +18,8 @@ use Rattle.requests.specs.declared.request.Request.TheVariants.{Cancel, Capture,
 use Rattle.rows.specs.Accounts.{active, both_sides_type, intermediation_type, suits}
 use Rattle.rows.specs.Allocations.{held, is_confirmed, is_empty, other, total}
 use Rattle.rows.specs.Hours.{in_time}
-use Rattle.rows.specs.InUse.{good_intermediation, good_pair, good_trade, stands}
+use Rattle.keyed.specs.Plain.{good_intermediation, good_pair}
+use Rattle.rows.specs.InUse.{good_trade, stands}
 use Rattle.rows.specs.Legs.{any_leg, both_legs, each_leg, has_leg, id, intermediation_in, leg, leg_state, legs_hold}
 use Rattle.rows.specs.Trades.{alike, allocation, is_cancelled, number, numbered_in, party, trade_in}
 use Rattle.rows.specs.declared.row.AllocationState.{AllocationState}

@@ -2,7 +2,7 @@ ghost use Rattle.std.specs.Prelude.{◌≡◌};
 
 // What a book keeps between calls: its day, and how many rows of each lent table are in use.
 // Any numbers may stand here: they are tested with the tables in every call.
-#[derive(Clone, Copy)]
+#[derive(Clone, Copy, Debug, PartialEq, Eq)]
 pub struct Book {
     pub day: u32,
     pub trades: usize,

@@ -7,8 +7,9 @@ use fields::{Ground, Refusal};
 pub fn test(passed: bool, ground: Ground, place: usize) -> Result<(), Refusal>
     ensures { result ≡ unless passed ground place }
 {
-    if !passed {
-        return Err(Refusal { ground, place });
+    if passed {
+        Ok(())
+    } else {
+        Err(ground.at(place))
     }
-    Ok(())
 }

@@ -12,6 +12,7 @@ use requests::NewTrade;
 use rows::Trade;
 use standing::capturable;
 
+#[tactic(auto, unfolding(crate::specs::Calls::own_step, book::specs::Verdicts::own_verdict, book::specs::Numbering::effect, book::specs::Numbering::completed, book::specs::Effects::placed))]
 pub fn capture(book: &mut Book, trades: &mut [Trade], request: &NewTrade) -> Result<Answer, Refusal>
     requires { book.old.trades ≤ length trades.old }
     ensures step { (ls : List Listed) (xs : List Intermediation) (ps : List Pair) (selic control : List ℕ) → told result (state_of book.new trades.new xs ps selic control) ≡ own_step ls (state_of book.old trades.old xs ps selic control) (Capture request.now) }

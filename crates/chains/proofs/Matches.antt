@@ -1,7 +1,7 @@
 -- The pairs of two ends: what the entries taken in order come to.
-use Rattle.keyed.proofs.Words.{Bool, true, false, cond, List, [], ◌∷◌, ◌++◌, map, append_assoc, ◌⊎◌, inl, inr, ◌≡◌, refl, sym, ap, ◌∙◌, ℕ, zero, suc, ◌+◌, ◌-◌, ◌<◌, ◌≤◌, arith, eqb, ltb, length, take, drop, take-append-drop, cond_both, ltb-true, ltb-false}
+use Rattle.std.proofs.lemmas.Grind.{common_steps}
+use Rattle.keyed.proofs.Words.{Bool, cond, List, [], ◌∷◌, ◌++◌, map, append_assoc, ◌⊎◌, inl, inr, ◌≡◌, refl, sym, ap, ◌∙◌, ℕ, zero, suc, ◌+◌, ◌-◌, ◌<◌, ◌≤◌, arith, eqb, length, take, drop, take-append-drop}
 use Rattle.std.proofs.Common.{min}
-use Rattle.std.proofs.lemmas.Bool.{cases_lt}
 use Rattle.fields.specs.declared.trade.Entry.{Entry}
 use Rattle.fields.specs.declared.trade.Pair.{Pair}
 use Rattle.keyed.proofs.Lists.{sum_those}
@@ -25,55 +25,18 @@ Level sold bought = Positive sold × Positive bought × (total sold ≡ total bo
 abbrev counted : (ℕ → Bool) → Entry → ℕ
 counted p e = cond (p e.account) e.quantity 0
 
-parted : (t : Bool) (a b c : ℕ) → c ≤ a → cond t (a - c) 0 + b + cond t c 0 ≡ cond t a 0 + b
-parted true a b c h = omega arith
-parted false a b c h = omega arith
-
-whole : (t : Bool) (a b c : ℕ) → a ≡ c → b + cond t c 0 ≡ cond t a 0 + b
-whole true a b c h = omega arith
-whole false a b c h = omega arith
-
-abbrev left : ℕ → Entry → Entry
-left n e = record { account = e.account; quantity = e.quantity - n; client = e.client }
-
--- some of it is left, or none
-less_cases : (P : List Entry → Type 0) (e : Entry) (es : List Entry) (n : ℕ) → (n < e.quantity → P (left n e ∷ es)) → (e.quantity ≤ n → P es) → P (less n e es)
-less_cases P e es n part gone = cond_both (ltb n e.quantity) (left n e ∷ es) es P (λ t. part (ltb-true _ _ t)) (λ t. gone (ltb-false _ _ t))
-
 less_sum : (p : ℕ → Bool) (e : Entry) (es : List Entry) (n : ℕ) → n ≤ e.quantity
     → sum (counted p) (less n e es) + cond (p e.account) n 0 ≡ sum (counted p) (e ∷ es)
-less_sum p e es n h = less_cases (λ xs. sum (counted p) xs + cond (p e.account) n 0 ≡ sum (counted p) (e ∷ es)) e es n
-    (λ _. parted (p e.account) e.quantity (sum (counted p) es) n h)
-    (λ l. whole (p e.account) e.quantity (sum (counted p) es) n (omega arith))
-
-less_total : (e : Entry) (es : List Entry) (n : ℕ) → n ≤ e.quantity → total (less n e es) + n ≡ total (e ∷ es)
-less_total e es n h = less_cases (λ xs. total xs + n ≡ total (e ∷ es)) e es n (λ _. omega arith) (λ l. omega arith)
-
-less_positive : (e : Entry) (es : List Entry) (n : ℕ) → Positive es → Positive (less n e es)
-less_positive e es n p = less_cases Positive e es n (λ l. (omega arith, p)) (λ _. p)
-
-less_length : (e : Entry) (es : List Entry) (n : ℕ) → length (less n e es) ≤ suc (length es)
-less_length e es n = less_cases (λ xs. length xs ≤ suc (length es)) e es n (λ _. omega arith) (λ _. omega arith)
-
-used_length : (e : Entry) (es : List Entry) (n : ℕ) → e.quantity ≡ n → length (less n e es) ≡ length es
-used_length e es n h = less_cases (λ xs. length xs ≡ length es) e es n (λ l. absurd (omega arith)) (λ _. refl)
+less_sum p e es n h = grind (arith, common_steps)
 
 -- one of the two foremost entries is used up
 one_used : (d b : Entry) (sold bought : List Entry) (n : ℕ) → n ≡ min d.quantity b.quantity
     → length (less n d sold) + length (less n b bought) < length (d ∷ sold) + length (b ∷ bought)
-one_used d b sold bought n h =
-    elim (cases_lt d.quantity b.quantity) [
-      | inl under ↦ omega (arith, used_length d sold n (omega arith), less_length b bought n)
-      | inr over ↦ omega (arith, used_length b bought n (omega arith), less_length d sold n)
-    ]
+one_used d b sold bought n h = grind (arith, common_steps)
 
 level_on : (d b : Entry) (sold bought : List Entry) (n : ℕ) → n ≡ min d.quantity b.quantity
     → Level (d ∷ sold) (b ∷ bought) → Level (less n d sold) (less n b bought)
-level_on d b sold bought n h l = (
-  less_positive d sold n l.0.1,
-  less_positive b bought n l.1.1,
-  omega (arith, less_total d sold n (omega arith), less_total b bought n (omega arith), l.2),
-)
+level_on d b sold bought n h l = grind (arith, common_steps)
 
 -- ── What is taken ──
 
@@ -89,9 +52,7 @@ pub taken_fewer : (ps : List Pair) (sold bought : List Entry) → 0 < length sol
 taken_fewer ps sold bought h t = omega (arith, few ps sold bought t)
 
 pub taken_some : (ps : List Pair) (sold bought : List Entry) → 0 < length sold → 0 < length bought → Taken ps sold bought → 0 < length ps
-taken_some [] sold bought d b (inl e) = absurd (omega (arith, ap length e))
-taken_some [] sold bought d b (inr e) = absurd (omega (arith, ap length e))
-taken_some (p ∷ ps) sold bought d b t = omega arith
+taken_some ps sold bought d b t = grind (arith, common_steps)
 
 nothing_left : (es : List Entry) → Positive es → total es ≡ 0 → es ≡ []
 nothing_left [] p h = refl

@@ -1,25 +1,15 @@
 -- What keeps full and numbered together.
-use Rattle.keyed.proofs.Words.{Bool, true, false, List, [], ◌∷◌, ◌++◌, ◌⊎◌, inl, inr, ⊎_elim, ◌≡◌, refl, sym, ap, subst, ◌∙◌, ℕ, eqb, cases_eq, cases_Bool, eqb-true, eqb-false, both_ways}
-use Rattle.chains.proofs.Walk.{Not0, one, far, Walk, whole, Pair, Among, Numbered, joined}
+use Rattle.std.proofs.lemmas.Grind.{common_steps}
+use Rattle.std.proofs.Common.{arith}
+use Rattle.std.specs.List.{Contains}
+use Rattle.std.proofs.lemmas.List.Elements.{Contains-append_cases, Contains-append_left, Contains-append_right}
+use Rattle.keyed.proofs.Words.{Bool, true, false, List, ◌++◌, ◌⊎◌, inl, inr, ⊎_elim, ◌≡◌, refl, sym, ap, subst, ◌∙◌, ℕ, cases_eq}
+use Rattle.chains.proofs.Walk.{Not0, one, far, Walk, whole, Pair, Numbered, joined}
 use Rattle.chains.proofs.Walks.{one_keeps, same_far, far_stops, far_next, far_prev, far_far, far_not0, far_across, whole_parts, whole_made, whole_any}
 
 same_one : (step step' : ℕ → ℕ) (m : ℕ) → step' m ≡ step m → one step' m ≡ one step m
 unfolding one
 same_one step step' m e = rw e refl
-
-pub among_left : (p : Pair) (ps qs : List Pair) → Among p ps → Among p (ps ++ qs)
-among_left p [] qs h = elim h [ ]
-among_left p (x ∷ ps) qs (inl e) = inl e
-among_left p (x ∷ ps) qs (inr h) = inr (among_left p ps qs h)
-
-pub among_right : (p : Pair) (ps qs : List Pair) → Among p qs → Among p (ps ++ qs)
-among_right p [] qs h = h
-among_right p (x ∷ ps) qs h = inr (among_right p ps qs h)
-
-pub among_cases : (p : Pair) (ps qs : List Pair) → Among p (ps ++ qs) → Among p ps ⊎ Among p qs
-among_cases p [] qs h = inr h
-among_cases p (x ∷ ps) qs (inl e) = inl (inl e)
-among_cases p (x ∷ ps) qs (inr h) = ⊎_elim (λ (a : Among p ps). inl (inr a)) (λ (a : Among p qs). inr a) (among_cases p ps qs h)
 
 -- ties changed only at trades that are not full
 module _ (next prev next' prev' : ℕ → ℕ) (full num : ℕ → Bool) (pairs : List Pair) (i : Numbered next prev full num pairs)
@@ -96,27 +86,11 @@ module _ (next prev : ℕ → ℕ) (w : Walk next prev) (full num full' : ℕ �
       whole_made next prev full (far prev k) (at_first _ (λ _. far_far next prev w k) p.0) (at_first _ f1 p.1) (at_first _ f2 p.2)
 
   pub confirmed_part : whole next prev full' n ≡ false → Numbered next prev full' num pairs
-  confirmed_part h = record {
-    none_full = more 0 i.none_full;
-    none_num = i.none_num;
-    num_full = λ k g. more k (i.num_full k g);
-    num_next = i.num_next;
-    num_prev = i.num_prev;
-    full_num = λ k z g. ⊎_elim (λ (e : far prev k ≡ far prev n). absurd (both_ways _ h (rw e at g)))
-        (λ (d : far prev k ≡ far prev n → ⊥). i.full_num k z (elsewhere k d g)) (cases_eq (far prev k) (far prev n));
-    pair_num = i.pair_num;
-    num_pair = i.num_pair;
-  }
+  confirmed_part h = grind (arith, common_steps, elsewhere)
 
   joined_cases : (P : Bool → Type 0) (k : ℕ) → (Not0 k → far prev k ≡ far prev n → P true) → ((Not0 k → far prev k ≡ far prev n → ⊥) → P (num k)) → P (joined prev n num k)
   unfolding joined
-  joined_cases P k a b =
-      ⊎_elim (λ (e : eqb k 0 ≡ true). rw e (b (λ z _. z (eqb-true _ _ e))))
-      (λ (e : eqb k 0 ≡ false). rw e (
-      ⊎_elim (λ (d : eqb (far prev k) (far prev n) ≡ true). rw d (a (eqb-false _ _ e) (eqb-true _ _ d)))
-      (λ (d : eqb (far prev k) (far prev n) ≡ false). rw d (b (λ _. eqb-false _ _ d)))
-      (cases_Bool (eqb (far prev k) (far prev n)))))
-      (cases_Bool (eqb k 0))
+  joined_cases P k a b = grind (arith, common_steps)
 
   joined_in : (k : ℕ) → Not0 k → far prev k ≡ far prev n → joined prev n num k ≡ true
   joined_in k z e = joined_cases (λ b. b ≡ true) k (λ _ _. refl) (λ q. absurd (q z e))
@@ -129,7 +103,7 @@ module _ (next prev : ℕ → ℕ) (w : Walk next prev) (full num full' : ℕ �
   filled_both k = joined_cases (λ b. b ≡ true → (Not0 k × (far prev k ≡ far prev n)) ⊎ (num k ≡ true)) k (λ z e _. inl (z, e)) (λ _ h. inr h)
 
   -- whatever pairs are written, if each names the chain's ends and there is one
-  pub confirmed_whole : (ps : List Pair) → ((p : Pair) → Among p ps → (p.opens ≡ far prev n) × (p.ends ≡ far next n)) → (p : Pair) → Among p ps
+  pub confirmed_whole : (ps : List Pair) → ((p : Pair) → Contains ps p → (p.opens ≡ far prev n) × (p.ends ≡ far next n)) → (p : Pair) → Contains ps p
       → whole next prev full' n ≡ true → Numbered next prev full' (joined prev n num) (pairs ++ ps)
   confirmed_whole ps each a_pair a_in h = record {
     none_full = more 0 i.none_full;
@@ -142,19 +116,19 @@ module _ (next prev : ℕ → ℕ) (w : Walk next prev) (full num full' : ℕ �
         (λ (o : num k ≡ true). joined_old _ (i.num_prev k o z)) (filled_both k g);
     full_num = λ k z g. ⊎_elim (λ (e : far prev k ≡ far prev n). joined_in k z e)
         (λ (d : far prev k ≡ far prev n → ⊥). joined_old k (i.full_num k z (elsewhere k d g))) (cases_eq (far prev k) (far prev n));
-    pair_num = λ p g. ⊎_elim (λ (o : Among p pairs). let q = i.pair_num p o in (joined_old _ q.0, q.1, q.2))
-        (λ (o : Among p ps). let e = each p o in (
+    pair_num = λ p g. ⊎_elim (λ (o : Contains pairs p). let q = i.pair_num p o in (joined_old _ q.0, q.1, q.2))
+        (λ (o : Contains ps p). let e = each p o in (
           ap (joined prev n num) e.0 ∙ joined_in _ (far_not0 next prev w n n_is) (far_far next prev w n),
           ap prev e.0 ∙ far_stops next prev w n,
           e.1 ∙ sym (far_across next prev w n) ∙ ap (far next) (sym e.0),
         ))
-        (among_cases p pairs ps g);
+        (Contains-append_cases pairs ps p g);
     num_pair = λ k g. ⊎_elim (λ (e : Not0 k × (far prev k ≡ far prev n)).
         let q = each a_pair a_in in (
           a_pair,
-          among_right a_pair pairs ps a_in,
+          Contains-append_right pairs ps a_pair a_in,
           q.0 ∙ sym e.1,
           q.1 ∙ sym (far_across next prev w n) ∙ ap (far next) (sym e.1) ∙ far_across next prev w k,
         ))
-        (λ (o : num k ≡ true). let q = i.num_pair k o in (q.0, among_left q.0 pairs ps q.1, q.2, q.3)) (filled_both k g);
+        (λ (o : num k ≡ true). let q = i.num_pair k o in (q.0, Contains-append_left pairs ps q.0 q.1, q.2, q.3)) (filled_both k g);
   }

@@ -1,5 +1,6 @@
 -- Walks over numbered things, where 0 stands for none.
-use Rattle.keyed.proofs.Words.{Bool, true, false, ◌&&◌, cond, List, [], ◌∷◌, ◌⊎◌, ◌≡◌, ℕ, ◌+◌, eqb}
+use Rattle.std.specs.List.{Contains}
+use Rattle.keyed.proofs.Words.{Bool, true, false, ◌&&◌, cond, List, ◌≡◌, ℕ, ◌+◌, eqb}
 
 -- f with x at a; nothing is put at 0
 unfoldable pub put : {X : Type 0} → ℕ → X → (ℕ → X) → ℕ → X
@@ -36,16 +37,12 @@ pub record Pair : Type 0 where
   pub opens : ℕ
   pub ends : ℕ
 
-abbrev pub Among : Pair → List Pair → Type 0
-Among p [] = ⊥
-Among p (q ∷ qs) = (p ≡ q) ⊎ Among p qs
-
 abbrev pub pair : ℕ → ℕ → Pair
 pair a b = record { opens = a; ends = b }
 
 -- some pair of the list names these two
 abbrev pub Named : ℕ → ℕ → List Pair → Type 0
-Named a b ps = (p : Pair) × Among p ps × (p.opens ≡ a) × (p.ends ≡ b)
+Named a b ps = (p : Pair) × Contains ps p × (p.opens ≡ a) × (p.ends ≡ b)
 
 -- full and numbered go together along chains, and the numbered ones have their pairs
 pub record Numbered (next prev : ℕ → ℕ) (full num : ℕ → Bool) (pairs : List Pair) : Type 0 where
@@ -55,7 +52,7 @@ pub record Numbered (next prev : ℕ → ℕ) (full num : ℕ → Bool) (pairs :
   pub num_next : (n : ℕ) → num n ≡ true → Not0 (next n) → num (next n) ≡ true
   pub num_prev : (n : ℕ) → num n ≡ true → Not0 (prev n) → num (prev n) ≡ true
   pub full_num : (n : ℕ) → Not0 n → whole next prev full n ≡ true → num n ≡ true
-  pub pair_num : (p : Pair) → Among p pairs → (num p.opens ≡ true) × (prev p.opens ≡ 0) × (p.ends ≡ far next p.opens)
+  pub pair_num : (p : Pair) → Contains pairs p → (num p.opens ≡ true) × (prev p.opens ≡ 0) × (p.ends ≡ far next p.opens)
   pub num_pair : (n : ℕ) → num n ≡ true → Named (far prev n) (far next n) pairs
 
 -- the chain of n numbered

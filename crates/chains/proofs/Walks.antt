@@ -1,18 +1,14 @@
 -- What a walk tells.
-use Rattle.keyed.proofs.Words.{Bool, true, false, ◌&&◌, ⊎_elim, ◌≡◌, refl, sym, ap, subst, ◌∙◌, ℕ, eqb, cases_eq, cases_Bool, eqb-true, eqb-false, eq-eqb, ne_eqb, and_parts}
+use Rattle.std.proofs.lemmas.Grind.{common_steps}
+use Rattle.std.proofs.Common.{arith}
+use Rattle.keyed.proofs.Words.{Bool, true, ⊎_elim, ◌≡◌, refl, sym, ap, ◌∙◌, ℕ, cases_eq, eq-eqb, ne_eqb}
 use Rattle.chains.proofs.Walk.{put, Not0, one, far, Walk, whole_from, whole}
 
 -- both cases of a put
 pub put_cases : {X : Type 0} (P : X → Type 0) (a : ℕ) (x : X) (f : ℕ → X) (n : ℕ)
     → (n ≡ a → Not0 n → P x) → ((n ≡ a → n ≡ 0) → P (f n)) → P (put a x f n)
 unfolding put
-put_cases P a x f n yes-at not_at =
-    ⊎_elim (λ (e : eqb a 0 ≡ true). rw e (not_at (λ h. h ∙ eqb-true _ _ e)))
-    (λ (e : eqb a 0 ≡ false). rw e (
-    ⊎_elim (λ (d : eqb n a ≡ true). rw d (yes-at (eqb-true _ _ d) (λ z. eqb-false _ _ e (sym (eqb-true _ _ d) ∙ z))))
-    (λ (d : eqb n a ≡ false). rw d (not_at (λ h. absurd (eqb-false _ _ d h))))
-    (cases_Bool (eqb n a))))
-    (cases_Bool (eqb a 0))
+put_cases P a x f n yes_at not_at = grind (arith, common_steps)
 
 pub put_at : {X : Type 0} (a : ℕ) (x : X) (f : ℕ → X) → Not0 a → put a x f a ≡ x
 put_at a x f h = put_cases (λ y. y ≡ x) a x f a (λ _ _. refl) (λ z. absurd (h (z refl)))
@@ -47,50 +43,22 @@ unfolding one far
 same_far step step' n e d = rw (e, d) refl
 
 module _ (next prev : ℕ → ℕ) (w : Walk next prev) where
-  step_not0 : (n : ℕ) → Not0 (next n) → Not0 n
-  step_not0 n h e = h (ap next e ∙ w.next_none)
-
   back_not0 : (n : ℕ) → Not0 (prev n) → Not0 n
   back_not0 n h e = h (ap prev e ∙ w.prev_none)
 
   three : (n : ℕ) → prev (prev (prev n)) ≡ 0
-  three n = ⊎_elim (λ (e : prev (prev (prev n)) ≡ 0). e)
-      (λ (h : Not0 (prev (prev (prev n)))).
-      let h2 = back_not0 _ h in
-      let h1 = back_not0 _ h2 in
-      let e1 = w.back n h1 in
-      let e2 = w.back (prev n) h2 in
-      let e3 = w.back (prev (prev n)) h in
-      absurd (back_not0 _ h1 (sym e1 ∙ ap next (sym e2) ∙ ap (λ x. next (next x)) (sym e3) ∙ w.short (prev (prev (prev n))))))
-      (cases_eq (prev (prev (prev n))) 0)
+  three n = grind (arith, common_steps)
 
   pub turned : Walk prev next
   turned = record { next_none = w.prev_none; prev_none = w.next_none; there = w.back; back = w.there; short = three }
 
   -- the far end has nothing before it
   pub far_stops : (n : ℕ) → prev (far prev n) ≡ 0
-  far_stops n = rw far_is (
-      ⊎_elim (λ (e : prev n ≡ 0). rw (one_stays prev n e, one_stays prev n e) e)
-      (λ (h : Not0 (prev n)). rw (one_goes prev n h) (
-      ⊎_elim (λ (e : prev (prev n) ≡ 0). rw (one_stays prev (prev n) e) e)
-      (λ (k : Not0 (prev (prev n))). rw (one_goes prev (prev n) k) (three n))
-      (cases_eq (prev (prev n)) 0)))
-      (cases_eq (prev n) 0))
+  far_stops n = grind (arith, common_steps, far_is, one_stays, one_goes)
 
   -- a trade and its next have one far end
   pub far_next : (n : ℕ) → Not0 (next n) → far prev (next n) ≡ far prev n
-  far_next n h =
-      let e = w.there n h in
-      let g : one prev (next n) ≡ n = one_goes prev (next n) (λ z. step_not0 n h (sym e ∙ z)) ∙ e in
-      let stop : prev (one prev n) ≡ 0 =
-      ⊎_elim (λ (z : prev n ≡ 0). rw (one_stays prev n z) z)
-      (λ (k : Not0 (prev n)). rw (one_goes prev n k) (
-      ⊎_elim (λ (z : prev (prev n) ≡ 0). z)
-      (λ (m : Not0 (prev (prev n))).
-      absurd (h (ap next (sym (w.back n k)) ∙ ap (λ x. next (next x)) (sym (w.back (prev n) m)) ∙ w.short (prev (prev n)))))
-      (cases_eq (prev (prev n)) 0)))
-      (cases_eq (prev n) 0) in
-      far_is prev (next n) ∙ ap (one prev) g ∙ sym (one_stays prev (one prev n) stop) ∙ sym (far_is prev n)
+  far_next n h = grind (arith, common_steps, one_goes, one_stays, far_is)
 
   pub far_prev : (n : ℕ) → Not0 (prev n) → far prev (prev n) ≡ far prev n
   far_prev n h = let e = w.back n h in
@@ -104,16 +72,7 @@ module _ (next prev : ℕ → ℕ) (w : Walk next prev) where
 
   -- a trade is its chain's first, second or third
   pub member : (P : ℕ → Type 0) (n : ℕ) → P (far prev n) → P (next (far prev n)) → P (next (next (far prev n))) → P n
-  member P n a b c =
-      ⊎_elim (λ (e : prev n ≡ 0).
-      subst P (far_is prev n ∙ ap (one prev) (one_stays prev n e) ∙ one_stays prev n e) a)
-      (λ (h : Not0 (prev n)).
-      ⊎_elim (λ (e : prev (prev n) ≡ 0).
-      subst P (ap next (far_is prev n ∙ ap (one prev) (one_goes prev n h) ∙ one_stays prev (prev n) e) ∙ w.back n h) b)
-      (λ (k : Not0 (prev (prev n))).
-      subst P (ap (λ x. next (next x)) (far_is prev n ∙ ap (one prev) (one_goes prev n h) ∙ one_goes prev (prev n) k) ∙ ap next (w.back (prev n) k) ∙ w.back n h) c)
-      (cases_eq (prev (prev n)) 0))
-      (cases_eq (prev n) 0)
+  member P n a b c = grind (arith, common_steps, far_is, one_stays, one_goes)
 
 -- the whole chain has one last trade
 pub far_across : (next prev : ℕ → ℕ) → Walk next prev → (n : ℕ) → far next (far prev n) ≡ far next n
@@ -124,10 +83,7 @@ module _ (next prev : ℕ → ℕ) (full : ℕ → Bool) where
   pub whole_parts : (f : ℕ) → whole_from next full f ≡ true
       → (full f ≡ true) × (full (next f) ≡ true) × (full (next (next f)) ≡ true)
   unfolding whole_from
-  whole_parts f h =
-      let a = and_parts (full f) (full (next f) && full (next (next f))) h in
-      let b = and_parts (full (next f)) (full (next (next f))) a.1 in
-      (a.0, b.0, b.1)
+  whole_parts f h = grind (arith, common_steps)
 
   pub whole_made : (f : ℕ) → full f ≡ true → full (next f) ≡ true → full (next (next f)) ≡ true → whole_from next full f ≡ true
   unfolding whole_from

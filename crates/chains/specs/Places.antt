@@ -1,5 +1,5 @@
 -- A chain by the places of its trades, and chains as they will stand once an intermediation is entered.
-use Rattle.std.specs.Prelude.{◌≡◌, ℕ, cond, List, [], ◌∷◌, map, Some, None, Option, ◌==◌, ◌≢◌, slice_index_or}
+use Rattle.std.specs.Prelude.{◌≡◌, ℕ, cond, List, [], ◌∷◌, map, Some, None, Option, Ok, Err, Result, ◌==◌, ◌≢◌, slice_index_or}
 use Rattle.fields.specs.declared.trade.Intermediation.{Intermediation}
 use Rattle.fields.specs.declared.trade.Side.{Side}
 use Rattle.keyed.specs.Members.{Each}
@@ -9,8 +9,8 @@ use Rattle.rows.specs.Legs.{id, leg}
 use Rattle.rows.specs.Trades.{no_trade, number}
 use Rattle.rows.specs.declared.row.Trade.{Trade}
 use Rattle.chains.specs.Following.{Beyond, a_trade, broken, chain, nothing, tie_in}
-use Rattle.chains.specs.declared.follow.Next.{Next}
-use Rattle.chains.specs.declared.follow.Next.TheVariants as next
+use Rattle.chains.specs.declared.follow.Broken.{Broken}
+use Rattle.chains.specs.declared.follow.Ties.{Ties}
 use Rattle.chains.specs.declared.follow.Way.{Way}
 use Rattle.chains.specs.declared.follow.Way.TheVariants.{Here, One, Two}
 
@@ -53,28 +53,36 @@ chain_with new ts xs n = chain (ties_with new (tie_in ts)) (standing_with new xs
 
 -- ── What the code finds ──
 
-abbrev pub beyond_at : List Trade → Next → Beyond
-beyond_at ts next.Nothing = nothing
-beyond_at ts (next.Trade i) = a_trade (number_at ts i)
-beyond_at ts next.Broken = broken
+-- the ties, and the intermediations, of lent tables as they will stand
+abbrev pub ties_of : Ties → Side → ℕ → Option ℕ
+ties_of t = ties_with t.new (tie_in t.trades.now)
 
-abbrev pub NextFindable : List Trade → Next → Type 0
-NextFindable ts next.Nothing = Unit {0}
-NextFindable ts (next.Trade i) = Findable ts i
-NextFindable ts next.Broken = Unit {0}
+abbrev pub standing_of : Ties → List Intermediation
+standing_of t = standing_with t.new t.intermediations.now
+
+-- what stands beyond a side, by the place that was found there
+abbrev pub beyond_at : List Trade → Result (Option ℕ) Broken → Beyond
+beyond_at ts (Ok None) = nothing
+beyond_at ts (Ok (Some i)) = a_trade (number_at ts i)
+beyond_at ts (Err e) = broken
+
+abbrev pub NextFindable : List Trade → Result (Option ℕ) Broken → Type 0
+NextFindable ts (Ok None) = Unit {0}
+NextFindable ts (Ok (Some i)) = Findable ts i
+NextFindable ts (Err e) = Unit {0}
 
 abbrev pub places_on : Way → List ℕ
 places_on Here = []
 places_on (One i) = i ∷ []
 places_on (Two i j) = i ∷ j ∷ []
 
-abbrev pub numbers_on : List Trade → Option Way → Option (List ℕ)
-numbers_on ts None = None
-numbers_on ts (Some w) = Some (numbers_at ts (places_on w))
+abbrev pub numbers_on : List Trade → Result Way Broken → Option (List ℕ)
+numbers_on ts (Ok w) = Some (numbers_at ts (places_on w))
+numbers_on ts (Err e) = None
 
-abbrev pub WayFindable : List Trade → Option Way → Type 0
-WayFindable ts None = Unit {0}
-WayFindable ts (Some w) = Each (Findable ts) (places_on w)
+abbrev pub WayFindable : List Trade → Result Way Broken → Type 0
+WayFindable ts (Ok w) = Each (Findable ts) (places_on w)
+WayFindable ts (Err e) = Unit {0}
 
 -- A chain as it is answered: the places of its first, its middle and its last trade, and its length. Where no trade stands between the
 -- first and the last, the first stands for the middle one.
@@ -91,17 +99,16 @@ pub record Shaped (c : Chain) : Type 0 where
   pub three : (c.3 ≢ 1) → (c.3 ≢ 2) → c.3 ≡ 3
 
 -- these places hold the trades with these numbers, as a chain
-pub record Placed (ts : List Trade) (ns : List ℕ) (c : Chain) : Type 0 where
-  pub numbers : ns ≡ numbers_at ts (places_of c)
+pub record Placed (ts : List Trade) (ns : Option (List ℕ)) (c : Chain) : Type 0 where
+  pub numbers : ns ≡ Some (numbers_at ts (places_of c))
   pub shaped : Shaped c
   pub first : Findable ts c.0
   pub middle : Findable ts c.1
   pub last : Findable ts c.2
 
-abbrev pub PlacedIf : List Trade → Option (List ℕ) → Option Chain → Type 0
-PlacedIf ts ns None = ns ≡ None
-PlacedIf ts None (Some c) = ⊥
-PlacedIf ts (Some ns) (Some c) = Placed ts ns c
+abbrev pub PlacedIf : List Trade → Option (List ℕ) → Result Chain Broken → Type 0
+PlacedIf ts ns (Ok c) = Placed ts ns c
+PlacedIf ts ns (Err e) = ns ≡ None
 
 -- the chain of trade n, by the places of its trades
 pub record Followed (new : Option Intermediation) (ts : List Trade) (xs : List Intermediation) (n : ℕ) (c : Chain) : Type 0 where

@@ -6,150 +6,135 @@ ghost use Rattle.keyed.specs.Members.{Each};
 ghost use Rattle.keyed.specs.Rows.{find as found};
 ghost use Rattle.rows.specs.Legs.{id as key};
 ghost use Rattle.rows.specs.Trades.{allocation, number as number_in};
-ghost use Rattle.chains.specs.Following.{beyond as beyond_by, by_intermediation, tie_in, together as together_by, way as way_by};
-ghost use Rattle.chains.specs.Places.{Findable, Followed, NextFindable, PlacedIf, WayFindable, beyond_at, chain_with, number_at, numbers_at, numbers_on, places_of, places_on, standing_with, ties_with};
+ghost use Rattle.chains.specs.Following.{beyond as beyond_by, by_intermediation, chain as chain_by, together as together_by, way as way_by};
+ghost use Rattle.chains.specs.Places.{Findable, Followed, NextFindable, PlacedIf, WayFindable, beyond_at, chain_with, number_at, numbers_at, numbers_on, places_of, places_on, standing_of, ties_of, ties_with};
 
 use fields::{Ground, Intermediation, Refusal, Side};
 use keyed::find;
 use rows::{Trade, leg_of, other_side};
 
-// What stands beyond a side of a trade: nothing, a trade, or a tie that leads to no row or not back.
-#[derive(Clone, Copy)]
-pub enum Next {
-    Nothing,
-    Trade(usize),
-    Broken,
-}
+// A tie leads to no row or not back, or a chain does not end within three trades.
+#[derive(Clone, Copy, Debug, PartialEq, Eq)]
+struct Broken;
 
-// The places of the trades met on the way over one side.
-#[derive(Clone, Copy)]
-pub enum Way {
+// The places of the trades met on the way over one side; three variants and no list, since `together` tells them apart.
+#[derive(Clone, Copy, Debug, PartialEq, Eq)]
+enum Way {
     Here,
     One(usize),
     Two(usize, usize),
 }
 
-// The intermediation that holds a side of a trade, 0 for none, once `new` is entered.
-fn tie(trade: &Trade, new: Option<Intermediation>, side: Side) -> u32
-    ensures { ties_with new (λ w n. Some (allocation w trade.now).tie) side (number_in trade.now) ≡ Some result }
-{
-    if let Some(entering) = new {
-        if leg_of(&entering, side) == trade.terms.number {
-            return entering.id;
+// The lent tables, seen as they will stand once `new` is entered. A place is `Findable` by a `requires`: a type for that would carry the trades
+// along with every place.
+#[derive(Clone, Copy)]
+struct Ties<'a> {
+    trades: &'a [Trade],
+    intermediations: &'a [Intermediation],
+    new: Option<Intermediation>,
+}
+
+impl Ties<'_> {
+    // The intermediation that holds a side of a trade, 0 for none, as the rows have it.
+    fn tie(&self, trade: &Trade, side: Side) -> u32
+        ensures { ties_with self.now.new (λ w n. Some (allocation w trade.now).tie) side (number_in trade.now) ≡ Some result }
+    {
+        match self.new {
+            Some(entering) if leg_of(&entering, side) == trade.terms.number => entering.id,
+            _ => trade.side(side).tie,
         }
     }
-    trade.side(side).tie
-}
 
-// The intermediation with this id.
-fn row_with(rows: &[Intermediation], id: u32) -> Option<Intermediation>
-    ensures { result ≡ found key id rows.now }
-{
-    let at = find(rows, id as u64)?;
-    Some(rows[at])
-}
+    // The intermediation with this id.
+    #[tactic(auto, using(keyed::proofs::Keys::found_entered))]
+    fn standing(&self, id: u32) -> Option<Intermediation>
+        ensures { result ≡ found key id (standing_of self.now) }
+    {
+        match self.new {
+            Some(entering) if entering.id == id => self.new,
+            _ => find(self.intermediations, id as u64).map(|at| self.intermediations[at]),
+        }
+    }
 
-// The same once `new` is entered.
-fn standing(rows: &[Intermediation], new: Option<Intermediation>, id: u32) -> Option<Intermediation>
-    ensures { result ≡ found key id (standing_with new rows.now) }
-{
-    let Some(entering) = new else {
-        return row_with(rows, id);
-    };
-    if entering.id == id {
-        return new;
+    // The place of the trade to which an intermediation leads that the side of trade `number` is tied to, if it leads on.
+    fn led(&self, side: Side, number: u32, by: &Intermediation) -> Result<Option<usize>, Broken>
+        ensures findable { NextFindable self.now.trades.now result }
+        ensures value { beyond_at self.now.trades.now result ≡ by_intermediation (ties_of self.now) side number (Some by.now) }
+    {
+        if leg_of(by, side) != number {
+            return Err(Broken);
+        }
+        let onward = leg_of(by, other_side(side));
+        if onward == 0 {
+            return Ok(None);
+        }
+        let at = find(self.trades, onward as u64).ok_or(Broken)?;
+        if self.tie(&self.trades[at], other_side(side)) != by.id {
+            return Err(Broken);
+        }
+        Ok(Some(at))
     }
-    row_with(rows, id)
-}
 
-// Where an intermediation leads that the side of trade `number` is tied to.
-fn led(
-    trades: &[Trade],
-    new: Option<Intermediation>,
-    side: Side,
-    number: u32,
-    by: &Intermediation,
-) -> Next
-    ensures findable { NextFindable trades.now result }
-    ensures value { beyond_at trades.now result ≡ by_intermediation (ties_with new (tie_in trades.now)) side number (Some by.now) }
-{
-    if leg_of(by, side) != number {
-        return Next::Broken;
+    // The place of the trade beyond a side of the trade at a place, if there is one.
+    #[tactic(auto, unfolding(crate::specs::Following::beyond))]
+    fn beyond(&self, side: Side, at: usize) -> Result<Option<usize>, Broken>
+        requires { Findable self.now.trades.now at }
+        ensures findable { NextFindable self.now.trades.now result }
+        ensures value { beyond_at self.now.trades.now result ≡ beyond_by (ties_of self.now) (standing_of self.now) side (number_at self.now.trades.now at) }
+    {
+        let id = self.tie(&self.trades[at], side);
+        if id == 0 {
+            return Ok(None);
+        }
+        let by = self.standing(id).ok_or(Broken)?;
+        self.led(side, self.trades[at].terms.number, &by)
     }
-    let onward = leg_of(by, other_side(side));
-    if onward == 0 {
-        return Next::Nothing;
-    }
-    let Some(at) = find(trades, onward as u64) else {
-        return Next::Broken;
-    };
-    if tie(&trades[at], new, other_side(side)) != by.id {
-        return Next::Broken;
-    }
-    Next::Trade(at)
-}
 
-// What stands beyond a side of the trade at a place.
-fn beyond(
-    trades: &[Trade],
-    intermediations: &[Intermediation],
-    new: Option<Intermediation>,
-    side: Side,
-    at: usize,
-) -> Next
-    requires { Findable trades.now at }
-    ensures findable { NextFindable trades.now result }
-    ensures value { beyond_at trades.now result ≡ beyond_by (ties_with new (tie_in trades.now)) (standing_with new intermediations.now) side (number_at trades.now at) }
-{
-    let id = tie(&trades[at], new, side);
-    if id == 0 {
-        return Next::Nothing;
+    // The trades met over one side of the trade at a place; broken too if the way leads to a third one.
+    #[tactic(auto, unfolding(crate::specs::Following::way))]
+    fn way_over(&self, side: Side, at: usize) -> Result<Way, Broken>
+        requires { Findable self.now.trades.now at }
+        ensures findable { WayFindable self.now.trades.now result }
+        ensures value { numbers_on self.now.trades.now result ≡ way_by (ties_of self.now) (standing_of self.now) side 3 (number_at self.now.trades.now at) }
+    {
+        let Some(near) = self.beyond(side, at)? else {
+            return Ok(Way::Here);
+        };
+        let Some(far) = self.beyond(side, near)? else {
+            return Ok(Way::One(near));
+        };
+        match self.beyond(side, far)? {
+            None => Ok(Way::Two(near, far)),
+            Some(_) => Err(Broken),
+        }
     }
-    let Some(by) = standing(intermediations, new, id) else {
-        return Next::Broken;
-    };
-    led(trades, new, side, trades[at].terms.number, &by)
-}
 
-// The trades met over one side of the trade at a place; nothing if the way is broken or leads to a third one.
-fn way_over(
-    trades: &[Trade],
-    intermediations: &[Intermediation],
-    new: Option<Intermediation>,
-    side: Side,
-    at: usize,
-) -> Option<Way>
-    requires { Findable trades.now at }
-    ensures findable { WayFindable trades.now result }
-    ensures value { numbers_on trades.now result ≡ way_by (ties_with new (tie_in trades.now)) (standing_with new intermediations.now) side 3 (number_at trades.now at) }
-{
-    match beyond(trades, intermediations, new, side, at) {
-        Next::Nothing => Some(Way::Here),
-        Next::Broken => None,
-        Next::Trade(near) => match beyond(trades, intermediations, new, side, near) {
-            Next::Nothing => Some(Way::One(near)),
-            Next::Broken => None,
-            Next::Trade(far) => match beyond(trades, intermediations, new, side, far) {
-                Next::Nothing => Some(Way::Two(near, far)),
-                Next::Trade(_) | Next::Broken => None,
-            },
-        },
+    // The chain of the trade at a place: the places of its first, its middle and its last trade, and its length.
+    #[tactic(auto, unfolding(crate::specs::Following::chain))]
+    fn chain(&self, at: usize) -> Result<(usize, usize, usize, usize), Broken>
+        requires { Findable self.now.trades.now at }
+        ensures { PlacedIf self.now.trades.now (chain_by (ties_of self.now) (standing_of self.now) (number_at self.now.trades.now at)) result }
+    {
+        let back = self.way_over(Side::Seller, at)?;
+        let ahead = self.way_over(Side::Buyer, at)?;
+        together(back, at, ahead)
     }
 }
 
-// Both ways together, if they are at most three trades: the places of the first, the middle and the last, and how many they are.
-fn together(back: Way, at: usize, ahead: Way) -> Option<(usize, usize, usize, usize)>
+// Both ways together, if they are at most three trades.
+fn together(back: Way, at: usize, ahead: Way) -> Result<(usize, usize, usize, usize), Broken>
     ensures { (ts : List Trade) → Each (Findable ts) (places_on back) → Findable ts at → Each (Findable ts) (places_on ahead) → PlacedIf ts (together_by (Some (numbers_at ts (places_on back))) (number_at ts at) (Some (numbers_at ts (places_on ahead)))) result }
 {
-    let ways = (back, ahead);
-    match ways {
-        (Way::Here, Way::Here) => Some((at, at, at, 1)),
-        (Way::Here, Way::One(last)) => Some((at, at, last, 2)),
-        (Way::Here, Way::Two(middle, last)) => Some((at, middle, last, 3)),
-        (Way::One(first), Way::Here) => Some((first, first, at, 2)),
-        (Way::One(first), Way::One(last)) => Some((first, at, last, 3)),
-        (Way::Two(middle, first), Way::Here) => Some((first, middle, at, 3)),
-        (Way::One(_), Way::Two(_, _)) | (Way::Two(_, _), Way::One(_) | Way::Two(_, _)) => None,
+    match (back, ahead) {
+        (Way::Here, Way::Here) => Ok((at, at, at, 1)),
+        (Way::Here, Way::One(last)) => Ok((at, at, last, 2)),
+        (Way::Here, Way::Two(middle, last)) => Ok((at, middle, last, 3)),
+        (Way::One(first), Way::Here) => Ok((first, first, at, 2)),
+        (Way::One(first), Way::One(last)) => Ok((first, at, last, 3)),
+        (Way::Two(middle, first), Way::Here) => Ok((first, middle, at, 3)),
+        (Way::One(_), Way::Two(_, _)) | (Way::Two(_, _), Way::One(_) | Way::Two(_, _)) => Err(
+            Broken,
+        ),
     }
 }
 
@@ -165,15 +150,11 @@ pub fn follow(
     requires { Findable trades.now at }
     ensures { MatchResult result (Followed new trades.now intermediations.now (number_at trades.now at)) (λ f. (chain_with new trades.now intermediations.now (number_at trades.now at) ≡ None) × (f ≡ refused BrokenChain place)) }
 {
-    let broken = Refusal {
-        ground: Ground::BrokenChain,
-        place,
-    };
-    let Some(back) = way_over(trades, intermediations, new, Side::Seller, at) else {
-        return Err(broken);
-    };
-    let Some(ahead) = way_over(trades, intermediations, new, Side::Buyer, at) else {
-        return Err(broken);
-    };
-    together(back, at, ahead).ok_or(broken)
+    Ties {
+        trades,
+        intermediations,
+        new,
+    }
+    .chain(at)
+    .map_err(|_| Ground::BrokenChain.at(place))
 }

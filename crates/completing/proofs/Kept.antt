@@ -1,6 +1,7 @@
 -- Changes that keep the numbers keep the places.
-use Rattle.keyed.proofs.Words.{List, Some, [], ◌++◌, ◌∷◌, ◌≡◌, ap, cond, eqb, map, refl, sym, zero, suc, ℕ, ◌+◌, ◌∙◌}
+use Rattle.keyed.proofs.Words.{arith, List, Some, [], ◌∷◌, ◌≡◌, ap, cond, eqb, map, refl, sym, zero, suc, ℕ, ◌+◌, ◌∙◌}
 use Rattle.std.proofs.Common.{get_or, set}
+use Rattle.std.proofs.lemmas.Grind.{common_steps}
 use Rattle.keyed.proofs.Steps.{found_at}
 use Rattle.keyed.specs.Lists.{or_else}
 use Rattle.keyed.specs.Places.{At, altered, place_from}
@@ -8,7 +9,6 @@ use Rattle.keyed.specs.Rows.{changed}
 use Rattle.rows.specs.Trades.{no_trade, number, trade_in}
 use Rattle.rows.specs.declared.row.Trade.{Trade}
 use Rattle.chains.specs.Places.{Chain, Findable, Shaped, number_at, numbers_at, places_of, row_at, rows_at}
-use Rattle.chains.proofs.Shapes.{shapes}
 
 -- a row put in its place is the row changed
 pub set_altered : {R : Type 0} (i : ℕ) (f : R → R) (d : R) (xs : List R) → set xs i (f (get_or xs i d)) ≡ altered i f xs
@@ -34,10 +34,8 @@ module _ (ts us : List Trade) (same : map number us ≡ map number ts) where
   -- the trades of a chain are read at their places
   pub rows_kept : (c : Chain) → Shaped c → Findable ts c.0 → Findable ts c.1 → Findable ts c.2
       → map (trade_in us) (numbers_at ts (places_of c)) ≡ rows_at us (places_of c)
-  rows_kept c s = shapes (λ d. Findable ts d.0 → Findable ts d.1 → Findable ts d.2 → map (trade_in us) (numbers_at ts (places_of d)) ≡ rows_at us (places_of d))
-      (λ i a _ _. one i a)
-      (λ i k a _ b. λ t. one i a t ++ one k b t)
-      (λ i j k a b e. λ t. one i a t ++ (one j b t ++ one k e t)) c s
-    where
-      one : (i : ℕ) → Findable ts i → (trade_in us (number_at ts i) ∷ []) ≡ (row_at us i ∷ [])
-      one i a = ap (λ t. t ∷ []) (read_kept (number_at ts i) i a)
+  rows_kept c s a b e =
+      let first = read_kept (number_at ts c.0) c.0 a in
+      let middle = read_kept (number_at ts c.1) c.1 b in
+      let last = read_kept (number_at ts c.2) c.2 e in
+      grind (arith, common_steps)

@@ -12,3 +12,11 @@ pub record Changed (count at : ℕ) (f : Trade → Trade) (before after : List T
   -- every trade stands where it stood
   pub numbers : map number (take count after) ≡ map number (take count before)
   pub beyond : drop count after ≡ drop count before
+
+-- whatever a step may leave of a row is f of it
+abbrev pub Makes : (Trade → Trade → Type 0) → (Trade → Trade) → Trade → Type 0
+Makes step f row = (after : Trade) → step row after → after ≡ f row
+
+-- and has its number
+abbrev pub KeepsNumber : (Trade → Trade → Type 0) → Trade → Type 0
+KeepsNumber step row = (after : Trade) → step row after → number after ≡ number row

@@ -1,5 +1,5 @@
 -- What stands in a buffer after a line was written.
-use Rattle.std.proofs.Common.{◌≡◌, ℕ, ◌-◌, ◌≤◌, List, length, take, Ok, sym, ap, ◌∙◌, arith}
+use Rattle.std.proofs.Common.{◌≡◌, ℕ, ◌-◌, List, take, Ok, sym, ap, ◌∙◌, arith}
 use Rattle.writing.specs.Written.{sent, with_line}
 use Rattle.writing.proofs.Over.{line_in_front}
 
@@ -8,6 +8,3 @@ module _ (line out after : List ℕ) (n : ℕ) (is : Ok n ≡ sent line out) (th
   part_is =
       let e : n - 0 ≡ n = omega arith in
       ap (λ k. take k after) e ∙ ap (take n) then ∙ (line_in_front line out n (sym is)).2
-
-  pub part_within : n ≤ length out
-  part_within = let p = line_in_front line out n (sym is) in omega (arith, p.0, p.1)

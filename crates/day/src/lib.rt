@@ -3,4 +3,4 @@
 
 pub mod whole;
 
-pub use whole::{Files, run};
+pub use whole::{COUNTED, Files, run};

@@ -1,21 +1,22 @@
-ghost use Rattle.std.specs.Prelude.{◌≡◌, ◌≤◌, ◌++◌, length, take, IfOk, OnOk};
-ghost use Rattle.writing.specs.Written.{answer_line};
+ghost use Rattle.std.specs.Prelude.{◌≡◌, ℕ, ◌++◌, List, length, take, IfOk, OnOk};
+ghost use Rattle.writing.specs.Written.{answer_line, Writes};
 ghost use Rattle.request_writer.specs.Canonical.{request_line};
 ghost use Rattle.text.specs.Fields.{lines};
+ghost use Rattle.day_files.specs.Told.{Tells};
 ghost use Rattle.day.specs.Day.{begun, day_of, ended, first_of, others_of, replies, reply};
 
 use account_text::AccountText;
-use day_files::{read_holds, read_roll};
+use day_files::{Stop, read_holds, read_roll};
 use fields::{Answer, Refusal};
 use layers::Hold;
 use request_text::{Opening, read_opening, read_request};
 use request_writer::write_request;
 use requests::Request;
 use std::alloc::{AllocError, Global};
-use text::next_line;
+use text::{Lines, next_line};
 use writing::write_answer;
 
-// The texts of a day.
+// The texts of a day, which are not compared.
 #[derive(Clone, Copy)]
 pub struct Files<'a> {
     pub accounts: &'a [u8],
@@ -27,6 +28,9 @@ pub struct Files<'a> {
 // How many bytes of a text count.
 pub const COUNTED: usize = 65_536;
 
+// How many bytes are enough for any line that is written.
+const ROOM: usize = 1_135;
+
 // Appends a line and the byte 10 that ends it.
 fn push_line(out: &mut Vec<u8>, line: &[u8]) -> Result<(), AllocError>
     ensures { OnOk result (out.new.items ≡ out.old.items ++ ended line.now) }
@@ -36,48 +40,39 @@ fn push_line(out: &mut Vec<u8>, line: &[u8]) -> Result<(), AllocError>
     Ok(())
 }
 
-// Appends the line of an answer, which is written into the buffer first.
-fn push_answer_by(
-    out: &mut Vec<u8>,
-    buffer: &mut [u8],
-    answer: Result<Answer, Refusal>,
-) -> Result<(), AllocError>
-    requires { 43 ≤ length buffer.old }
-    ensures { OnOk result (out.new.items ≡ out.old.items ++ ended (answer_line answer)) }
+// What can be written as a line. `ROOM` bytes are enough for it.
+trait Line {
+    ghost line: { Self → List ℕ };
+
+    fn write(&self, buffer: &mut [u8]) -> Result<usize, Refusal>
+        ensures { Writes (line self.now) 1135 buffer.old buffer.new result };
+}
+
+impl Line for Result<Answer, Refusal> {
+    ghost line = { answer_line };
+
+    fn write(&self, buffer: &mut [u8]) -> Result<usize, Refusal> {
+        write_answer(buffer, *self)
+    }
+}
+
+impl Line for Request {
+    ghost line = { request_line };
+
+    fn write(&self, buffer: &mut [u8]) -> Result<usize, Refusal> {
+        write_request(buffer, self)
+    }
+}
+
+// Appends what is written as a line.
+fn push<L: Line>(out: &mut Vec<u8>, written: &L) -> Result<(), AllocError>
+    ensures { OnOk result (out.new.items ≡ out.old.items ++ ended (L.line written.now)) }
 {
-    let Ok(n) = write_answer(buffer, answer) else {
+    let mut buffer = [0; ROOM];
+    let Ok(n) = written.write(&mut buffer) else {
         return unreachable();
     };
     push_line(out, &buffer[0..n])
-}
-
-// Appends the line of an answer.
-fn push_answer(out: &mut Vec<u8>, answer: Result<Answer, Refusal>) -> Result<(), AllocError>
-    ensures { OnOk result (out.new.items ≡ out.old.items ++ ended (answer_line answer)) }
-{
-    push_answer_by(out, &mut [0; 43], answer)
-}
-
-// Appends the canonical line of a request, which is written into the buffer first.
-fn push_request_by(
-    out: &mut Vec<u8>,
-    buffer: &mut [u8],
-    request: &Request,
-) -> Result<(), AllocError>
-    requires { 1135 ≤ length buffer.old }
-    ensures { OnOk result (out.new.items ≡ out.old.items ++ ended (request_line request.now)) }
-{
-    let Ok(n) = write_request(buffer, request) else {
-        return unreachable();
-    };
-    push_line(out, &buffer[0..n])
-}
-
-// Appends the canonical line of a request.
-fn push_request(out: &mut Vec<u8>, request: &Request) -> Result<(), AllocError>
-    ensures { OnOk result (out.new.items ≡ out.old.items ++ ended (request_line request.now)) }
-{
-    push_request_by(out, &mut [0; 1135], request)
 }
 
 // Appends the reply to one line.
@@ -85,8 +80,8 @@ fn push_reply(out: &mut Vec<u8>, line: &[u8]) -> Result<(), AllocError>
     ensures { OnOk result (out.new.items ≡ out.old.items ++ ended (reply line.now)) }
 {
     match read_request(line) {
-        Ok(request) => push_request(out, &request),
-        Err(refusal) => push_answer(out, Err(refusal)),
+        Ok(request) => push(out, &request),
+        Err(refusal) => push(out, &Err(refusal)),
     }
 }
 
@@ -94,10 +89,8 @@ fn push_reply(out: &mut Vec<u8>, line: &[u8]) -> Result<(), AllocError>
 fn push_replies(out: &mut Vec<u8>, text: &[u8]) -> Result<(), AllocError>
     ensures { OnOk result (out.new.items ≡ out.old.items ++ replies (lines text.now)) }
 {
-    let mut rest = text;
-    while let Some((line, behind)) = next_line(rest) {
+    for line in Lines::new(text) {
         push_reply(out, line)?;
-        rest = behind;
     }
     Ok(())
 }
@@ -106,11 +99,7 @@ fn push_replies(out: &mut Vec<u8>, text: &[u8]) -> Result<(), AllocError>
 fn counted(text: &[u8]) -> &[u8]
     ensures { result.now ≡ take 65536 text.now }
 {
-    if text.len() > COUNTED {
-        &text[0..COUNTED]
-    } else {
-        text
-    }
+    &text[..COUNTED.min(text.len())]
 }
 
 // The first line of a text and the text behind it; no line at all is an empty one.
@@ -118,24 +107,17 @@ fn first_line<'a>(text: &'a [u8]) -> (&'a [u8], &'a [u8])
     ensures first { result.0.now ≡ first_of (lines text.now) }
     ensures others { lines result.1.now ≡ others_of (lines text.now) }
 {
-    match next_line(text) {
-        Some(cut) => cut,
-        None => (text, text),
-    }
+    next_line(text).unwrap_or((text, text))
 }
 
 // Reads the files of accounts, holds and numbers and the first line, or tells the first fault.
-fn begin(heap: Global, files: &Files, first: &[u8]) -> Result<Result<Opening, Refusal>, AllocError>
-    ensures { IfOk result (λ q. q ≡ begun files.now.holds.now files.now.roll.now first.now) }
+fn begin(heap: Global, files: &Files, first: &[u8]) -> Result<Opening, Stop>
+    ensures { Tells (λ opening. opening) (begun files.now.holds.now files.now.roll.now first.now) result }
 {
     let mut register = Hold::new(AccountText::new(counted(files.accounts)));
-    if let Err(refusal) = read_holds(&mut register, counted(files.holds)) {
-        return Ok(Err(refusal));
-    }
-    match read_roll(heap, counted(files.roll))? {
-        Ok(_numbers) => Ok(read_opening(first)),
-        Err(refusal) => Ok(Err(refusal)),
-    }
+    read_holds(&mut register, counted(files.holds))?;
+    read_roll(heap, counted(files.roll))?;
+    Ok(read_opening(first)?)
 }
 
 // What a day is answered with.
@@ -144,9 +126,10 @@ pub fn run(heap: Global, files: &Files) -> Result<Vec<u8>, AllocError>
 {
     let (first, rest) = first_line(counted(files.input));
     let mut out = Vec::new(heap);
-    match begin(heap, files, first)? {
+    match begin(heap, files, first) {
         Ok(_) => push_replies(&mut out, rest)?,
-        Err(refusal) => push_answer(&mut out, Err(refusal))?,
+        Err(Stop::Refused(refusal)) => push(&mut out, &Err(refusal))?,
+        Err(Stop::OutOfMemory(e)) => return Err(e),
     }
     Ok(out)
 }

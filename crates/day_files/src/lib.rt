@@ -3,6 +3,8 @@
 
 pub mod holds;
 pub mod roll;
+pub mod stop;
 
 pub use holds::read_holds;
 pub use roll::read_roll;
+pub use stop::Stop;

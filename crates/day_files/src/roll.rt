@@ -1,13 +1,14 @@
 // roll.txt: a number on each line, rising.
-ghost use Rattle.std.specs.Prelude.{◌≡◌, IfOk};
+ghost use Rattle.std.specs.Prelude.{◌≡◌, vec_items};
 ghost use Rattle.text.specs.Fields.{lines};
 ghost use Rattle.day_files.specs.Files.{roll_line, roll_lines};
-ghost use Rattle.day_files.specs.Numbers.{numbers_in};
+ghost use Rattle.day_files.specs.Told.{Tells};
 
+use crate::stop::Stop;
 use fields::range::ISSUED;
 use fields::{Ground, Refusal};
-use std::alloc::{AllocError, Global};
-use text::{next_line, read_only};
+use std::alloc::Global;
+use text::{Lines, read_only};
 
 // The number on a line, which has to rise above the last.
 fn read_line(line: &[u8], place: usize, last: u64) -> Result<u64, Refusal>
@@ -15,30 +16,20 @@ fn read_line(line: &[u8], place: usize, last: u64) -> Result<u64, Refusal>
 {
     let number = read_only(line, place, ISSUED)?;
     if number <= last {
-        return Err(Refusal {
-            ground: Ground::EndsEarly,
-            place,
-        });
+        return Err(Ground::EndsEarly.at(place));
     }
     Ok(number)
 }
 
 // The numbers on the lines of a text, or the first fault and its line, from 1.
-pub fn read_roll(heap: Global, text: &[u8]) -> Result<Result<Vec<u64>, Refusal>, AllocError>
-    ensures { IfOk result (λ q. numbers_in q ≡ roll_lines 1 0 (lines text.now)) }
+pub fn read_roll(heap: Global, text: &[u8]) -> Result<Vec<u64>, Stop>
+    ensures { Tells vec_items (roll_lines 1 0 (lines text.now)) result }
 {
     let mut numbers = Vec::new(heap);
     let mut last = 0;
-    let mut place = 1;
-    let mut rest = text;
-    while let Some((line, behind)) = next_line(rest) {
-        match read_line(line, place, last) {
-            Ok(number) => last = number,
-            Err(refusal) => return Ok(Err(refusal)),
-        }
+    for (i, line) in Lines::new(text).enumerate() {
+        last = read_line(line, i + 1, last)?;
         numbers.push(last)?;
-        place += 1;
-        rest = behind;
     }
-    Ok(Ok(numbers))
+    Ok(numbers)
 }

@@ -1,25 +1,22 @@
 // Runs a day: reads accounts.txt, holds.txt, roll.txt and the standard input, and prints the answers.
 #![tactic(auto)]
 
-use day::run;
+use day::{COUNTED, run};
 use std::io::Read;
 use std::rt::Files;
 use std::{fs, io};
 
-// How many bytes of each text count.
-const COUNTED: u64 = 65_536;
-
 fn read_text<R: Read + Drop>(from: R, heap: std::alloc::Global) -> io::Result<Vec<u8>> {
     let mut text = Vec::new(heap);
-    from.take(COUNTED).read_to_end(&mut text)?;
+    from.take(COUNTED as u64).read_to_end(&mut text)?;
     Ok(text)
 }
 
-fn run_day(rt: &HostRuntime) -> anyhow::Result<()> {
+fn main(rt: HostRuntime) -> anyhow::Result<()> {
     let heap = rt.alloc();
-    let accounts = read_text(fs::open(rt, "accounts.txt")?, heap)?;
-    let holds = read_text(fs::open(rt, "holds.txt")?, heap)?;
-    let roll = read_text(fs::open(rt, "roll.txt")?, heap)?;
+    let accounts = read_text(fs::open(&rt, "accounts.txt")?, heap)?;
+    let holds = read_text(fs::open(&rt, "holds.txt")?, heap)?;
+    let roll = read_text(fs::open(&rt, "roll.txt")?, heap)?;
     let input = read_text(rt.stdin(), heap)?;
     let files = day::Files {
         accounts: &accounts,
@@ -30,8 +27,4 @@ fn run_day(rt: &HostRuntime) -> anyhow::Result<()> {
     let answers = run(heap, &files)?;
     rt.write_all(&answers)?;
     Ok(())
-}
-
-fn main(rt: HostRuntime) -> anyhow::Result<()> {
-    run_day(&rt)
 }

@@ -1,3 +1,4 @@
 pub mod Grounds
+pub mod Letters
 pub mod Ranges
 pub mod Refusals

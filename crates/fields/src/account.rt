@@ -1,7 +1,7 @@
 // What is known of an account.
 
 // The account types of the market. SI and IN are intermediation accounts.
-#[derive(Clone, Copy, PartialEq)]
+#[derive(Clone, Copy, Debug, PartialEq, Eq)]
 pub enum AccountType {
     SL,
     SI,
@@ -13,14 +13,14 @@ pub enum AccountType {
     RT,
 }
 
-#[derive(Clone, Copy, PartialEq)]
+#[derive(Clone, Copy, Debug, PartialEq, Eq)]
 pub enum Status {
     Active,
     Blocked,
 }
 
 // A set of kinds: those that an account may trade.
-#[derive(Clone, Copy)]
+#[derive(Clone, Copy, Debug, PartialEq, Eq)]
 pub struct Markets {
     pub selic: bool,
     pub deposited: bool,
@@ -28,14 +28,14 @@ pub struct Markets {
 }
 
 // A participant with an offeror: who stands on a side of a trade, or whom an account is tied to.
-#[derive(Clone, Copy, PartialEq)]
+#[derive(Clone, Copy, Debug, Default, PartialEq, Eq)]
 pub struct Party {
     pub participant: u32,
     pub offeror: u32,
 }
 
 // An account without its ties; `class` is its type, `day` the day on which it was registered.
-#[derive(Clone, Copy)]
+#[derive(Clone, Copy, Debug, PartialEq, Eq)]
 pub struct Account {
     pub code: u32,
     pub class: AccountType,

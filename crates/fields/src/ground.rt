@@ -1,8 +1,11 @@
 ghost use Rattle.std.specs.Prelude.{◌≡◌};
 ghost use Rattle.fields.specs.Grounds.{number_of};
+ghost use Rattle.fields.specs.Refusals.{refused};
+
+use crate::answer::Refusal;
 
 // Why a request is refused. Declared in the order of their numbers, which begin at 1.
-#[derive(Clone, Copy, PartialEq)]
+#[derive(Clone, Copy, Debug, PartialEq, Eq)]
 pub enum Ground {
     UnknownLetter = 1,
     BadField,
@@ -49,5 +52,15 @@ impl Ground {
         ensures { result ≡ number_of self }
     {
         self as u8
+    }
+
+    // The refusal on this ground at a place.
+    pub fn at(self, place: usize) -> Refusal
+        ensures { result ≡ refused self place }
+    {
+        Refusal {
+            ground: self,
+            place,
+        }
     }
 }

@@ -1,18 +1,35 @@
-ghost use Rattle.std.specs.Prelude.{◌≡◌};
+ghost use Rattle.std.specs.Prelude.{◌≡◌, if◌then◌else◌, Ok, Err};
 ghost use Rattle.fields.specs.Ranges.{is_in_range};
+ghost use Rattle.fields.specs.Refusals.{refused};
+ghost use Rattle.fields.specs.declared.ground.Ground.TheVariants.{BadField};
+
+use crate::answer::Refusal;
+use crate::ground::Ground;
 
 // The numbers from `least` to `most`.
-#[derive(Clone, Copy)]
+#[derive(Clone, Copy, Debug, PartialEq, Eq)]
 pub struct Range {
     pub least: u64,
     pub most: u64,
 }
 
+// Callers widen a smaller number by `as u64`, which loses nothing.
 impl Range {
     pub fn holds(self, n: u64) -> bool
         ensures { result ≡ is_in_range self n }
     {
-        self.least <= n && n <= self.most
+        (self.least..=self.most).contains(&n)
+    }
+
+    // Refuses a number that is not among them: it is a bad field at this place.
+    pub fn test(self, n: u64, place: usize) -> Result<(), Refusal>
+        ensures { result ≡ (if is_in_range self n then Ok tt else Err (refused BadField place)) }
+    {
+        if self.holds(n) {
+            Ok(())
+        } else {
+            Err(Ground::BadField.at(place))
+        }
     }
 }
 

@@ -1,8 +1,7 @@
 -- The numbers of a roll.
-use Rattle.std.specs.Prelude.{◌≡◌, ℕ, ◌<◌, ◌≤◌, ◌&&◌, List, [], ◌∷◌, nat_lt}
+use Rattle.std.specs.Prelude.{◌≡◌, ℕ, ◌≤◌, List}
 use Rattle.std.proofs.Common.{subst, arith}
-use Rattle.std.proofs.lemmas.Bool.{and_parts, ltb-true, cond_both}
-use Rattle.keyed.specs.Fronts.{rising_front}
+use Rattle.keyed.specs.Fronts.{rising_front, rising_front_holds}
 use Rattle.fields.specs.Ranges.{is_in_range, issued}
 use Rattle.issuers.specs.Numbers.{NotIn, Fresh}
 
@@ -10,22 +9,15 @@ use Rattle.issuers.specs.Numbers.{NotIn, Fresh}
 abbrev pub rising : ℕ → List ℕ → List ℕ
 rising last ns = rising_front (λ n. n) (is_in_range issued) last ns
 
-above : (n last : ℕ) (ms : List ℕ) → n ≤ last → NotIn n (rising last ms)
-above n last [] h = tt
-above n last (m ∷ ms) h =
-    cond_both (nat_lt last m && is_in_range issued m) (m ∷ rising m ms) [] (NotIn n)
-    (λ e.
-    let up : last < m = ltb-true last m (and_parts (nat_lt last m) (is_in_range issued m) e).0 in
-    (λ same. omega arith, above n m ms (omega arith)))
-    (λ _. tt)
+-- no number up to k is in it, and none is in it twice
+abbrev IsAbove : ℕ → List ℕ → Type 0
+IsAbove k ns = ((n : ℕ) → n ≤ k → NotIn n ns) × Fresh ns
 
-rising_fresh : (last : ℕ) (ms : List ℕ) → Fresh (rising last ms)
-rising_fresh last [] = tt
-rising_fresh last (m ∷ ms) =
-    cond_both (nat_lt last m && is_in_range issued m) (m ∷ rising m ms) [] Fresh
-    (λ e. ((and_parts (nat_lt last m) (is_in_range issued m) e).1, above m m ms (omega arith), rising_fresh m ms))
-    (λ _. tt)
+rising_above : (k : ℕ) (ns : List ℕ) → IsAbove k (rising k ns)
+rising_above =
+    rising_front_holds (λ n. n) (is_in_range issued) IsAbove (λ _. (λ _ _. tt, tt))
+    (λ k m ms up good above. (λ n low. (λ same. omega arith, above.0 n (omega arith)), (good, above.0 m (omega arith), above.1)))
 
 -- a table that rises throughout has no number twice
 pub roll_fresh : (ms : List ℕ) → rising 0 ms ≡ ms → Fresh ms
-roll_fresh ms e = subst Fresh e (rising_fresh 0 ms)
+roll_fresh ms e = subst Fresh e (rising_above 0 ms).1

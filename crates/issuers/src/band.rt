@@ -4,8 +4,8 @@ ghost use Rattle.issuers.specs.Bands.{band, band_fault, band_fresh};
 ghost use Rattle.issuers.specs.Numbers.{Fresh, first_of, rest_of};
 
 use crate::source::Issuer;
+use fields::Refusal;
 use fields::range::ISSUED;
-use fields::{Ground, Refusal};
 
 // None is left once `first` exceeds `last`.
 #[derive(Drop)]
@@ -21,18 +21,8 @@ impl Band {
     pub fn new(first: u64, last: u64) -> Result<Self, Refusal>
         ensures { MatchResult result (λ b. (band_fault first last ≡ None) × (band b.first b.last ≡ band first last)) (λ e. band_fault first last ≡ Some e) }
     {
-        if !ISSUED.holds(first) {
-            return Err(Refusal {
-                ground: Ground::BadField,
-                place: 1,
-            });
-        }
-        if !ISSUED.holds(last) {
-            return Err(Refusal {
-                ground: Ground::BadField,
-                place: 2,
-            });
-        }
+        ISSUED.test(first, 1)?;
+        ISSUED.test(last, 2)?;
         Ok(Band { first, last })
     }
 }
@@ -43,11 +33,7 @@ impl Issuer for Band {
     ghost fresh = { λ s. band_fresh s.first s.last s.from_one s.in_range };
 
     fn remaining(&self) -> u64 {
-        if self.first <= self.last {
-            self.last + 1 - self.first
-        } else {
-            0
-        }
+        (self.last + 1).saturating_sub(self.first)
     }
 
     fn next(&mut self) -> Option<u64> {

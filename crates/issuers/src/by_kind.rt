@@ -1,4 +1,4 @@
-// Two issuers, of which the kind of a chain's first trade picks one.
+// Two issuers, of which the kind of a chain's first trade picks one. They may be of two types, so each is a parameter.
 ghost use Rattle.std.specs.Prelude.{◌≡◌, length};
 ghost use Rattle.issuers.specs.Kinds.{for_kind};
 ghost use Rattle.issuers.specs.Numbers.{first_of, rest_of};

@@ -17,7 +17,7 @@ pub struct Roll<'a> {
 
 impl<'a> Roll<'a> {
     // The roll of the numbers before the first that does not rise or is out of range;
-    // and, where there is such a number, that the table ends early, with its row from 1.
+    // and, where there is such a number, that the table ends early, with its row from 1. Both are told, as `sound_part` does.
     pub fn new(numbers: &'a [u64]) -> (Self, Result<(), Refusal>)
         ensures left { result.0.left.now ≡ rising 0 numbers.now }
         ensures fault { result.1 ≡ ends_early (length (rising 0 numbers.now)) (length numbers.now) }
@@ -37,20 +37,8 @@ impl<'a> Issuer for Roll<'a> {
     }
 
     fn next(&mut self) -> Option<u64> {
-        let (number, rest) = split_first(self.left);
+        let (number, rest) = self.left.split_first()?;
         self.left = rest;
-        number
+        Some(*number)
     }
-}
-
-// The first number, if there is one, and those behind it, which rise as they did.
-fn split_first(numbers: &[u64]) -> (Option<u64>, &[u64])
-    ensures first { result.0 ≡ first_of numbers.now }
-    ensures rest { result.1.now ≡ rest_of numbers.now }
-    ensures rises { rising 0 numbers.now ≡ numbers.now → rising 0 result.1.now ≡ result.1.now }
-{
-    let [number, rest @ ..] = numbers else {
-        return (None, numbers);
-    };
-    (Some(*number), rest)
 }

@@ -1,4 +1,5 @@
 pub mod Keys
+pub mod Libraries
 pub mod Lists
 pub mod Shifts
 pub mod Steps

@@ -3,8 +3,8 @@ use Rattle.std.proofs.Common.{◌≡◌, ℕ, ◌+◌, ◌-◌, ◌<◌, ◌≤�
 use Rattle.std.proofs.lemmas.Slice.{between_is}
 use borrow.Rule.Slice.PartMut.{put_mid}
 use Rattle.std.proofs.lemmas.List.{append_assoc, take_at, drop_at, length_push, length-take-le, length-append, length-take, take-append-drop, set_split, drop-drop, take-take}
-use Rattle.keyed.specs.Places.{below, put_in, without, At}
-use Rattle.keyed.specs.Rows.{entered, table, entered_in, removed_in}
+use Rattle.keyed.specs.Places.{below, put_in, without}
+use Rattle.keyed.specs.Rows.{entered, table, entered_in}
 
 -- the last of a part comes before it
 turned_up : {R : Type 0} (b : List R) (row : R) → drop (length (b ++ (row ∷ [])) - 1) (b ++ (row ∷ [])) ++ take (length (b ++ (row ∷ [])) - 1) (b ++ (row ∷ [])) ≡ row ∷ b
@@ -69,7 +69,7 @@ module _ {R : Type 0} (xs ys : List R) (n at : ℕ) (row : R) (l : at ≤ n) (h 
   pub enter_rest : drop (n + 1) ys ≡ drop (n + 1) xs
   enter_rest = ap (drop (n + 1)) e ∙ drop_at (put_in at row (take n xs)) (drop (n + 1) xs) (n + 1) put_len
 
-  pub enter_rows : (key : R → ℕ) → at ≡ below key (key row) (take n xs) → take (n + 1) ys ≡ entered key row (take n xs)
+  enter_rows : (key : R → ℕ) → at ≡ below key (key row) (take n xs) → take (n + 1) ys ≡ entered key row (take n xs)
   enter_rows key at-is =
       ap (take (n + 1)) e ∙ take_at (put_in at row (take n xs)) (drop (n + 1) xs) (n + 1) put_len
       ∙ ap (λ i. put_in i row (take n xs)) at-is ∙ put_below key row (take n xs)
@@ -92,9 +92,3 @@ module _ {R : Type 0} (xs ys : List R) (n i : ℕ) (h : i < n) (k : n ≤ length
 
   pub remove_rows : take (n - 1) ys ≡ without i (take n xs)
   remove_rows = ap (take (n - 1)) e ∙ take_at (without i (take n xs)) (take 1 (drop i xs) ++ drop n xs) (n - 1) short
-
-  pub remove_table : (key : R → ℕ) (m : ℕ) → At key m (take n xs) i → table (n - 1) ys ≡ removed_in key m (table n xs)
-  remove_table key m found =
-      let l : length ys ≡ length xs = ap length e ∙ simp (length-append, length-drop, length-take) (omega arith) in
-      let rows = remove_rows in
-      cc

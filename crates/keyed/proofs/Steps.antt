@@ -1,14 +1,10 @@
--- The steps of a scan over rows. Assumes nothing.
-use Rattle.std.proofs.Common.{◌≡◌, ℕ, suc, ◌+◌, ◌-◌, ◌<◌, ◌≤◌, Bool, true, false, cond, ◌&&◌, eqb, ltb, List, [], ◌∷◌, length, get_or, take, drop, Some, None, Option, sym, refl, ap, ◌∙◌, subst, arith}
-use Rattle.std.proofs.lemmas.List.{drop_more, drop_all}
-use Rattle.std.proofs.lemmas.Bool.{eqb-true, eq-eqb, ne_eqb, lt-ltb, le-ltb, ltb-true}
+-- What a scan over rows finds. Assumes nothing.
+use Rattle.std.proofs.Common.{◌≡◌, ℕ, suc, ◌+◌, ◌-◌, ◌<◌, ◌≤◌, Bool, true, false, cond, eqb, List, [], ◌∷◌, length, get_or, take, Some, None, Option, sym, refl, ap, ◌∙◌, subst, arith}
+use Rattle.std.proofs.lemmas.Bool.{eqb-true}
+use Rattle.std.proofs.lemmas.Bool.Decides.{nat_tests}
 use Rattle.keyed.specs.Fronts.{rising_front}
-use Rattle.keyed.specs.Places.{altered, without, below, place_from, At, Found}
-use Rattle.keyed.specs.Rows.{find, changed, removed, rises_above}
-
--- what is left of the rows, with the row that was read in front
-pub front : {R : Type 0} (xs : List R) (i : ℕ) (x : R) → i < length xs → x ≡ get_or xs i x → drop i xs ≡ x ∷ drop (i + 1) xs
-front xs i x h e = drop_more xs i x h ∙ ap (λ y. y ∷ drop (i + 1) xs) (sym e)
+use Rattle.keyed.specs.Places.{altered, without, place_from, At, Found}
+use Rattle.keyed.specs.Rows.{find, changed, removed}
 
 module _ {R : Type 0} (key : R → ℕ) (k : ℕ) where
   record There (xs : List R) (i : ℕ) : Type 0 where
@@ -66,52 +62,10 @@ module _ {R : Type 0} (key : R → ℕ) (k : ℕ) where
   pub found_at : (xs : List R) (o : Option ℕ) → o ≡ place_from key k 0 xs → Found key k xs o
   found_at xs o e = subst (λ p. Found key k xs p) (sym e) (found xs)
 
-module _ {R : Type 0} (key : R → ℕ) (k : ℕ) (xs : List R) (i : ℕ) where
-  pub place_hit : (x : R) → i < length xs → x ≡ get_or xs i x → key x ≡ k → place_from key k i (drop i xs) ≡ Some i
-  place_hit x h e q = ap (place_from key k i) (front xs i x h e) ∙ ap (λ b. cond b (Some i) (place_from key k (i + 1) (drop (i + 1) xs))) (eq-eqb (key x) k q)
-
-  pub place_miss : (x : R) → i < length xs → x ≡ get_or xs i x → (key x ≡ k → ⊥) → place_from key k i (drop i xs) ≡ place_from key k (i + 1) (drop (i + 1) xs)
-  place_miss x h e q = ap (place_from key k i) (front xs i x h e) ∙ ap (λ b. cond b (Some i) (place_from key k (i + 1) (drop (i + 1) xs))) (ne_eqb (key x) k q)
-
-  pub place_end : length xs ≤ i → place_from key k i (drop i xs) ≡ None
-  place_end h = ap (place_from key k i) (drop_all i xs h)
-
-  pub below_hit : (x : R) → i < length xs → x ≡ get_or xs i x → k ≤ key x → below key k (drop i xs) ≡ 0
-  below_hit x h e q = ap (below key k) (front xs i x h e) ∙ ap (λ b. cond b (1 + below key k (drop (i + 1) xs)) 0) (le-ltb (key x) k q)
-
-  pub below_miss : (x : R) → i < length xs → x ≡ get_or xs i x → key x < k → below key k (drop i xs) ≡ 1 + below key k (drop (i + 1) xs)
-  below_miss x h e q = ap (below key k) (front xs i x h e) ∙ ap (λ b. cond b (1 + below key k (drop (i + 1) xs)) 0) (lt-ltb (key x) k q)
-
-  pub below_end : length xs ≤ i → below key k (drop i xs) ≡ 0
-  below_end h = ap (below key k) (drop_all i xs h)
-
-  pub rise_step : (x : R) → i < length xs → x ≡ get_or xs i x → rises_above key k (drop i xs) ≡ (ltb k (key x) && rises_above key (key x) (drop (i + 1) xs))
-  rise_step x h e = ap (rises_above key k) (front xs i x h e)
-
-  pub rise_end : length xs ≤ i → rises_above key k (drop i xs) ≡ true
-  rise_end h = ap (rises_above key k) (drop_all i xs h)
-
 module _ {R : Type 0} (key : R → ℕ) (good : R → Bool) where
-  module _ (k : ℕ) (xs : List R) (i : ℕ) where
-    pub front_stop : (x : R) → i < length xs → x ≡ get_or xs i x → (ltb k (key x) && good x) ≡ false → rising_front key good k (drop i xs) ≡ []
-    front_stop x h e q = ap (rising_front key good k) (front xs i x h e) ∙ ap (λ b. cond b (x ∷ rising_front key good (key x) (drop (i + 1) xs)) []) q
-
-    pub front_more : (x : R) → i < length xs → x ≡ get_or xs i x → k < key x → good x ≡ true → rising_front key good k (drop i xs) ≡ x ∷ rising_front key good (key x) (drop (i + 1) xs)
-    front_more x h e up q =
-        ap (rising_front key good k) (front xs i x h e)
-        ∙ ap (λ b. cond (b && good x) (x ∷ rising_front key good (key x) (drop (i + 1) xs)) []) (lt-ltb k (key x) up)
-        ∙ ap (λ b. cond b (x ∷ rising_front key good (key x) (drop (i + 1) xs)) []) q
-
-    pub front_end : length xs ≤ i → rising_front key good k (drop i xs) ≡ []
-    front_end h = ap (rising_front key good k) (drop_all i xs h)
-
   pub take_front : (k : ℕ) (xs : List R) → take (length (rising_front key good k xs)) xs ≡ rising_front key good k xs
   take_front k [] = refl
-  take_front k (x ∷ xs) =
-      elim (ltb k (key x) && good x) as (λ b. take (length (cond b (x ∷ rising_front key good (key x) xs) [])) (x ∷ xs) ≡ cond b (x ∷ rising_front key good (key x) xs) []) [
-        | true ↦ ap (λ ys. x ∷ ys) (take_front (key x) xs)
-        | false ↦ refl
-      ]
+  take_front k (x ∷ xs) = let ih = take_front (key x) xs in grind (arith, nat_tests)
 
   -- so it is enough to know how many they are
   pub front_rows : (n : ℕ) (xs : List R) → n ≡ length (rising_front key good 0 xs) → take n xs ≡ rising_front key good 0 xs
@@ -119,11 +73,7 @@ module _ {R : Type 0} (key : R → ℕ) (good : R → Bool) where
 
   front_again : (k : ℕ) (xs : List R) → rising_front key good k (rising_front key good k xs) ≡ rising_front key good k xs
   front_again k [] = refl
-  front_again k (x ∷ xs) = go (front_again (key x) xs) (ltb k (key x) && good x) refl
-    where
-      go : rising_front key good (key x) (rising_front key good (key x) xs) ≡ rising_front key good (key x) xs → (b : Bool) → (ltb k (key x) && good x) ≡ b → rising_front key good k (cond b (x ∷ rising_front key good (key x) xs) []) ≡ cond b (x ∷ rising_front key good (key x) xs) []
-      go ih true e = ap (λ b. cond b (x ∷ rising_front key good (key x) (rising_front key good (key x) xs)) []) e ∙ ap (λ ys. x ∷ ys) ih
-      go ih false e = refl
+  front_again k (x ∷ xs) = let ih = front_again (key x) xs in grind (arith, nat_tests)
 
   -- nothing more is taken from a sound front
   pub front_sound : (n : ℕ) (xs : List R) → n ≡ length (rising_front key good 0 xs) → rising_front key good 0 (take n xs) ≡ take n xs
@@ -132,19 +82,8 @@ module _ {R : Type 0} (key : R → ℕ) (good : R → Bool) where
   -- what is sound above k is sound above less
   pub sound_above_less : (j k : ℕ) (xs : List R) → j ≤ k → rising_front key good k xs ≡ xs → rising_front key good j xs ≡ xs
   sound_above_less j k [] h e = refl
-  sound_above_less j k (x ∷ xs) h e = go (ltb k (key x)) refl (good x) refl e
-    where
-      go : (b : Bool) → ltb k (key x) ≡ b → (c : Bool) → good x ≡ c → cond (b && c) (x ∷ rising_front key good (key x) xs) [] ≡ (x ∷ xs) → rising_front key good j (x ∷ xs) ≡ (x ∷ xs)
-      go true up true q e =
-          ap (λ b. cond (b && good x) (x ∷ rising_front key good (key x) xs) []) (lt-ltb j (key x) (omega (arith, ltb-true k (key x) up)))
-          ∙ ap (λ b. cond b (x ∷ rising_front key good (key x) xs) []) q ∙ e
-      go true up false q e = absurd (omega (arith, ap length e))
-      go false up c q e = absurd (omega (arith, ap length e))
+  sound_above_less j k (x ∷ xs) h e = grind (arith, nat_tests)
 
   -- and so is what stands behind its first row
   pub sound_rest : (x : R) (xs : List R) → rising_front key good 0 (x ∷ xs) ≡ (x ∷ xs) → rising_front key good 0 xs ≡ xs
-  sound_rest x xs e = go (ltb 0 (key x) && good x) e
-    where
-      go : (b : Bool) → cond b (x ∷ rising_front key good (key x) xs) [] ≡ (x ∷ xs) → rising_front key good 0 xs ≡ xs
-      go true e = let same : rising_front key good (key x) xs ≡ xs = cc in sound_above_less 0 (key x) xs (omega arith) same
-      go false e = absurd (omega (arith, ap length e))
+  sound_rest x xs e = let less = sound_above_less 0 (key x) xs in grind (arith, nat_tests)

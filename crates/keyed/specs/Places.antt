@@ -1,16 +1,15 @@
 -- Where a row stands, and what a change at its place makes of the rows.
-use Rattle.std.specs.Prelude.{◌≡◌, ℕ, zero, suc, ◌+◌, ◌<◌, cond, List, [], ◌∷◌, ◌++◌, length, take, drop, Some, None, Option, ◌==◌, nat_lt, slice_index_or}
+use Rattle.std.specs.Prelude.{◌≡◌, ℕ, zero, suc, ◌+◌, ◌<◌, List, [], ◌∷◌, ◌++◌, length, take, drop, Some, None, Option, ◌==◌, nat_lt, slice_index_or}
+use Rattle.std.specs.List.{position_from, prefix_len}
 use Rattle.keyed.specs.Rows.{find, changed, removed}
 
 -- the place of the first row with key k, counted from i
 abbrev pub place_from : {R : Type 0} → (R → ℕ) → ℕ → ℕ → List R → Option ℕ
-place_from key k i [] = None
-place_from key k i (x ∷ xs) = cond (key x == k) (Some i) (place_from key k (i + 1) xs)
+place_from key k = position_from (λ x. key x == k)
 
 -- how many rows stand before the first one whose key is not below k
 abbrev pub below : {R : Type 0} → (R → ℕ) → ℕ → List R → ℕ
-below key k [] = 0
-below key k (x ∷ xs) = cond (nat_lt (key x) k) (1 + below key k xs) 0
+below key k = prefix_len (λ x. nat_lt (key x) k)
 
 -- the row at a place changed, taken out, or put in
 abbrev pub altered : {R : Type 0} → ℕ → (R → R) → List R → List R

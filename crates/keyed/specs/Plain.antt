@@ -1,8 +1,12 @@
 -- The ranges of the fields of rows from below.
 use Rattle.std.specs.Prelude.{Bool, not, ◌&&◌, ◌||◌, ◌==◌}
 use Rattle.fields.specs.Ranges.{accounts, is_in_range, issued, numbers, numbers_or_none, participants, quantities}
+use Rattle.fields.specs.declared.account.Party.{Party}
 use Rattle.fields.specs.declared.trade.Intermediation.{Intermediation}
 use Rattle.fields.specs.declared.trade.Pair.{Pair}
+
+abbrev pub good_party : Party → Bool
+good_party p = is_in_range participants p.participant && is_in_range participants p.offeror
 
 -- one of the legs at least is there
 abbrev pub good_intermediation : Intermediation → Bool

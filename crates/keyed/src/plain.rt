@@ -1,11 +1,11 @@
-// Rows of types from below: bare numbers, each its own key (account codes, and numbers that an issuer may give), intermediations and pairs.
+// Rows of types from below: bare numbers, each its own key (account codes, and numbers that an issuer may give), intermediations and pairs; and parties.
 ghost use Rattle.std.specs.Prelude.{ℕ};
 ghost use Rattle.fields.specs.Ranges.{is_in_range, issued};
-ghost use Rattle.keyed.specs.Plain.{good_intermediation, good_pair};
+ghost use Rattle.keyed.specs.Plain.{good_intermediation, good_pair, good_party};
 
 use crate::row::{Checked, Keyed};
 use fields::range::{ACCOUNT, ISSUED, NUMBER, NUMBER_OR_NONE, PARTICIPANT, QUANTITY};
-use fields::{Intermediation, Pair};
+use fields::{Intermediation, Pair, Party};
 
 impl Keyed for u32 {
     ghost key = { λ n. n };
@@ -28,6 +28,14 @@ impl Checked for u64 {
 
     fn is_good(&self) -> bool {
         ISSUED.holds(*self)
+    }
+}
+
+impl Checked for Party {
+    ghost good = { good_party };
+
+    fn is_good(&self) -> bool {
+        PARTICIPANT.holds(self.participant as u64) && PARTICIPANT.holds(self.offeror as u64)
     }
 }
 

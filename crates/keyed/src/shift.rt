@@ -18,6 +18,7 @@ pub fn enter<R: Keyed + Copy>(rows: &mut [R], count: usize, row: R)
 }
 
 // Puts a row in at a place; where that is the place of its key, the row is entered.
+#[tactic(auto, using(crate::proofs::Shifts::open_at, crate::proofs::Shifts::enter_rest, crate::proofs::Shifts::enter_table))]
 fn open_at<R: Drop>(rows: &mut [R], count: usize, at: usize, row: R)
     requires { (at ≤ count) × (count < length rows.old) }
     ensures after { rows.new ≡ put_in at row (take count rows.old) ++ drop (count + 1) rows.old }
@@ -30,6 +31,7 @@ fn open_at<R: Drop>(rows: &mut [R], count: usize, at: usize, row: R)
 }
 
 // Takes the row at `at` out; it stands behind the others then.
+#[tactic(auto, using(crate::proofs::Shifts::close_at, crate::proofs::Shifts::remove_rest, crate::proofs::Shifts::remove_rows))]
 pub fn remove<R>(rows: &mut [R], count: usize, at: usize)
     requires { (at < count) × (count ≤ length rows.old) }
     ensures after { rows.new ≡ without at (take count rows.old) ++ (take 1 (drop at rows.old) ++ drop count rows.old) }

@@ -8,7 +8,7 @@ use Rattle.chains.proofs.Puts.{put_same}
 use Rattle.chains.proofs.Ties.{put_on}
 use Rattle.chains.proofs.Walk.{put, Not0, Walk, far, joined}
 use Rattle.chains.proofs.Walks.{put_cases, put_off, far_next, far_far, member}
-use Rattle.book.specs.Effects.{marked as marked_row}
+use Rattle.rows.specs.Trades.{marked as marked_row}
 use Rattle.law.proofs.Shown.{common, shows, Here, None0, left, made, Only, buyer_view, seller_view, both_view, same_sides, is_numbered_trade, is_void, of_chain, rows_view, trade_put}
 use Rattle.law.proofs.Views.{View, next, prev, sides, link, captured, voided, exclude, re_numbered, with_sides, with_ties}
 

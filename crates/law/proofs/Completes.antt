@@ -1,10 +1,12 @@
 -- A call that confirms leaves the book sound: a chain that it completes is numbered.
-use Rattle.keyed.proofs.Words.{true, false, cond, List, [], ◌∷◌, ◌++◌, map, inl, inr, ⊎_elim, ◌≡◌, refl, sym, ap, ap₂, subst, fun_ext, ◌∙◌, ℕ, zero, suc, ◌+◌, ◌≤◌, ◌<◌, arith, length, cases_eq, cases_Bool, ne_eqb, eq-eqb, and_parts, not-true, false≢true, Some, None}
+use Rattle.std.specs.List.{All, Contains}
+use Rattle.std.proofs.lemmas.List.Elements.{All-cons, All-contains, All-nil}
+use Rattle.keyed.proofs.Words.{true, false, cond, List, [], ◌∷◌, ◌++◌, map, ⊎_elim, ◌≡◌, refl, sym, ap, ap₂, subst, fun_ext, ◌∙◌, ℕ, zero, suc, ◌+◌, ◌≤◌, ◌<◌, arith, length, cases_eq, cases_Bool, ne_eqb, eq-eqb, and_parts, not-true, false≢true, Some, None}
 use Rattle.law.proofs.Subject.{intermediation_in, Entry, Intermediation, Pair, Side, Buyer, Seller, or_else, is_some, all, Table, find, changed, entries_held, number, numbered, both_confirmed, Confirmed, Trade, trade_in, last_of, matched, if_all_confirmed, chain_confirmed, chain_matches, issuer, new_pairs, all_numbered, numbering, with_numbers, State, chain_of, trade}
 use mathlib.Core.List.{map-append}
 use Rattle.keyed.proofs.Keys.{row_past}
 use Rattle.keyed.proofs.Lists.{none_by, none_some}
-use Rattle.chains.proofs.Walk.{put, Not0, Walk, Half, Among, Pair as Ends, pair}
+use Rattle.chains.proofs.Walk.{put, Not0, Walk, Half, Pair as Ends, pair}
 use Rattle.chains.proofs.Walks.{put_cases, far_not0, far_keeps, far_far, far_across, whole_parts, whole_any, turned}
 use Rattle.chains.specs.Following.{first_of}
 use Rattle.chains.specs.Pairing.{matches, given_numbers}
@@ -24,17 +26,22 @@ changed_none n f (t ∷ ts) h =
     (cases_eq (number t) n)
 
 -- each pair written names the two trades
-pub written_names : (a b : ℕ) (ms : List Match) (ns : List ℕ) (p : Ends) → Among p (map ends (given_numbers a b ms ns)) → (p.opens ≡ a) × (p.ends ≡ b)
-written_names a b [] ns p h = elim h [ ]
-written_names a b (m ∷ ms) [] p h = elim h [ ]
-written_names a b (m ∷ ms) (n ∷ ns) p (inl e) = (ap (λ x. x.opens) e, ap (λ x. x.ends) e)
-written_names a b (m ∷ ms) (n ∷ ns) p (inr h) = written_names a b ms ns p h
+abbrev NamesBoth : ℕ → ℕ → Ends → Type 0
+NamesBoth a b p = (p.opens ≡ a) × (p.ends ≡ b)
+
+name_both : (a b : ℕ) (ms : List Match) (ns : List ℕ) → All (NamesBoth a b) (map ends (given_numbers a b ms ns))
+name_both a b [] ns = All-nil (NamesBoth a b)
+name_both a b (m ∷ ms) [] = All-nil (NamesBoth a b)
+name_both a b (m ∷ ms) (n ∷ ns) = All-cons (NamesBoth a b) (pair a b) (map ends (given_numbers a b ms ns)) (refl, refl) (name_both a b ms ns)
+
+pub written_names : (a b : ℕ) (ms : List Match) (ns : List ℕ) (p : Ends) → Contains (map ends (given_numbers a b ms ns)) p → (p.opens ≡ a) × (p.ends ≡ b)
+written_names a b ms ns p h = All-contains (NamesBoth a b) (map ends (given_numbers a b ms ns)) p (name_both a b ms ns) h
 
 pub written_some : (a b : ℕ) (ms : List Match) (ns : List ℕ) → 0 < length ms → length ms ≤ length ns
-    → Among (pair a b) (map ends (given_numbers a b ms ns))
+    → Contains (map ends (given_numbers a b ms ns)) (pair a b)
 written_some a b [] ns h l = absurd (omega arith)
 written_some a b (m ∷ ms) [] h l = absurd (omega arith)
-written_some a b (m ∷ ms) (n ∷ ns) h l = inl refl
+written_some a b (m ∷ ms) (n ∷ ns) h l = (0, omega arith, refl)
 
 -- the ties of a book
 pub halves : (ts : List Trade) (xs : List Intermediation) (ps : List Pair) (v : View) → Half v.buys v.bought → Half v.sells v.sold

@@ -1,8 +1,9 @@
 -- A confirmation keeps the book sound.
+use Rattle.std.specs.List.{Contains}
 use Rattle.keyed.proofs.Words.{true, false, List, ◌⊎◌, inl, inr, ⊎_elim, ◌≡◌, refl, sym, ap, ◌∙◌, ℕ, cases_eq, ne_eqb, eq-eqb}
 use Rattle.law.proofs.Subject.{Empty, Confirmed}
 use Rattle.chains.proofs.Numbering.{confirmed_part, confirmed_whole}
-use Rattle.chains.proofs.Walk.{put, Not0, Walk, Pair, Among}
+use Rattle.chains.proofs.Walk.{put, Not0, Walk, Pair}
 use Rattle.chains.proofs.Walks.{put_cases, far_next}
 use Rattle.law.proofs.Kept.{walk, full_parts, full_made, blank_kept}
 use Rattle.law.proofs.Views.{View, sure, next, prev, full_by, full, first, last, whole_chain, sides, numbered, leg, live, Sound}
@@ -60,7 +61,7 @@ module _ (v : View) (s : Sound v) (a c : ℕ) (some : Not0 (leg a c)) (here : No
   }
 
   -- the whole chain, and its pairs
-  pub whole_kept : (ps : List Pair) → ((p : Pair) → Among p ps → (p.opens ≡ first v (leg a c)) × (p.ends ≡ last v (leg a c))) → (p : Pair) → Among p ps
+  pub whole_kept : (ps : List Pair) → ((p : Pair) → Contains ps p → (p.opens ≡ first v (leg a c)) × (p.ends ≡ last v (leg a c))) → (p : Pair) → Contains ps p
       → whole_chain (sides a c Confirmed v) (leg a c) ≡ true → Sound (numbered ps (leg a c) (sides a c Confirmed v))
   whole_kept ps each p i h = record {
     buying = s.buying;

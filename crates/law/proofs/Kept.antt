@@ -1,5 +1,5 @@
 -- Each part of a request keeps the book sound.
-use Rattle.keyed.proofs.Words.{Bool, true, false, not, ◌&&◌, ◌⊎◌, inl, inr, ⊎_elim, ◌≡◌, refl, sym, ap, ap₂, subst, fun_ext, ◌∙◌, ℕ, ◌+◌, ◌≤◌, cases_eq, cases_Bool, eq-eqb, ne_eqb, both_ways, and_parts, false≢true}
+use Rattle.keyed.proofs.Words.{arith, Bool, true, false, not, ◌&&◌, ◌⊎◌, inl, inr, ⊎_elim, ◌≡◌, refl, sym, ap, ap₂, subst, fun_ext, ◌∙◌, ℕ, ◌+◌, ◌≤◌, cases_eq, cases_Bool, eq-eqb, ne_eqb, both_ways, and_parts, false≢true}
 use Rattle.law.proofs.Subject.{AllocationState, Empty}
 use Rattle.chains.proofs.Numbering.{relinked, refilled}
 use Rattle.chains.proofs.Ties.{walk_of, half_linked, half_unlinked, next_linked, next_unlinked, short_cut, short_linked, count_fits, first_is}
@@ -267,7 +267,7 @@ nothing_sound = record {
     num_next = λ n h. absurd (false≢true h);
     num_prev = λ n h. absurd (false≢true h);
     full_num = λ n z h. absurd (none_whole n z h);
-    pair_num = λ p h. elim h [ ];
+    pair_num = λ p h. absurd (omega (arith, h.1));
     num_pair = λ n h. absurd (false≢true h);
   };
   none = refl;

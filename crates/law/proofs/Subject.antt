@@ -27,9 +27,10 @@ pub use Rattle.requests.specs.declared.request.Request.TheVariants.{Cancel, Capt
 pub use Rattle.requests.specs.declared.request.SideCall.{SideCall}
 pub use Rattle.rows.specs.Accounts.{active, is_selic, suits}
 pub use Rattle.rows.specs.Allocations.{confirmed, emptied, entries_held, held, is_confirmed, is_empty, other, total}
-pub use Rattle.rows.specs.InUse.{good_intermediation, good_trade}
+pub use Rattle.keyed.specs.Plain.{good_intermediation}
+pub use Rattle.rows.specs.InUse.{good_trade}
 pub use Rattle.rows.specs.Legs.{any_leg, both_legs, each_leg, has_leg, id, intermediation_in, leg, no_intermediation}
-pub use Rattle.rows.specs.Trades.{alike, allocation, at_side, both_confirmed, captured, is_cancelled, is_numbered, no_trade, number, numbered, numbered_in, party, trade_in}
+pub use Rattle.rows.specs.Trades.{alike, allocation, at_side, both_confirmed, cancelled, captured, is_cancelled, is_numbered, marked, no_trade, number, numbered, numbered_in, party, trade_in}
 pub use Rattle.rows.specs.declared.row.Allocation.{Allocation}
 pub use Rattle.rows.specs.declared.row.AllocationState.{AllocationState}
 pub use Rattle.rows.specs.declared.row.AllocationState.TheVariants.{Confirmed, Empty}
@@ -39,7 +40,7 @@ pub use Rattle.chains.specs.Following.{Beyond, a_trade, broken, by_intermediatio
 unfoldable pub use Rattle.chains.specs.Following.{beyond, chain, way}
 pub use Rattle.chains.specs.Paired.{Paired}
 unfoldable pub use Rattle.chains.specs.Pairing.{matched}
-pub use Rattle.book.specs.Effects.{called_off, cancelled, excluded_by, marked}
+pub use Rattle.book.specs.Effects.{called_off, excluded_by}
 unfoldable pub use Rattle.book.specs.Effects.{excluded, placed}
 pub use Rattle.book.specs.Entries.{entries_of, included, intermediated, kept_entry, no_account, shown, whole_entry}
 unfoldable pub use Rattle.book.specs.Fields.{fields_verdict}

@@ -1,15 +1,12 @@
 -- Codes held and released.
-use Rattle.std.proofs.Common.{◌≡◌, ℕ, zero, suc, ◌+◌, true, false, List, [], ◌∷◌, Ok, Err, refl}
+use Rattle.std.proofs.Common.{◌≡◌, ℕ, true, false, List, [], ◌∷◌, Ok, Err, refl}
+use Rattle.std.specs.List.{range_with_len}
 use Rattle.fields.specs.declared.ground.Ground.TheVariants.{BadField, HoldsFull}
 use Rattle.layers.specs.Codes.{hold_codes, hold_answer, release_codes, release_answer}
 use Rattle.layers.specs.Layers.{open_markets}
 
-abbrev counted : ℕ → ℕ → List ℕ
-counted from zero = []
-counted from (suc n) = from ∷ counted (from + 1) n
-
 abbrev full : List ℕ
-full = counted 1 64
+full = range_with_len 1 64
 
 one_more : hold_codes 5 (3 ∷ 7 ∷ []) ≡ 3 ∷ 5 ∷ 7 ∷ []
 one_more = refl

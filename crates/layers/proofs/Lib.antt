@@ -1,3 +1,3 @@
 pub mod Each
 mod Examples
-pub mod Held
+pub mod Holding

@@ -1,48 +1,39 @@
 // Kinds that are halted.
-ghost use Rattle.std.specs.Prelude.{◌≡◌, List};
-ghost use Rattle.layers.specs.Layers.{each, on_found, open_markets, halt_account, halt_apart};
-ghost use Rattle.register.specs.Meaning.{Listed, account_in, tied_in, Apart};
+ghost use Rattle.std.specs.Prelude.{◌≡◌, refl};
+ghost use Rattle.layers.specs.Layers.{open_markets, halt_account};
 
-use crate::below::{account_below, tied_below};
-use fields::{Account, Markets, Party};
-use register::Register;
+use crate::layer::{Layer, View};
+use fields::{Account, Markets};
 
 // Takes the halted kinds out of the markets of every account.
-#[derive(Drop)]
-pub struct Halt<R> {
-    below: R,
-    halted: Markets,
+pub type Halt<R> = Layer<R, Halted>;
+
+// The kinds that are halted.
+#[derive(Clone, Copy, Debug, PartialEq, Eq)]
+pub struct Halted {
+    kinds: Markets,
 }
 
 impl<R> Halt<R> {
     pub fn new(below: R, halted: Markets) -> Self
-        ensures { (result.below ≡ below) × (result.halted ≡ halted) }
+        ensures { (result.below ≡ below) × (result.view.kinds ≡ halted) }
     {
-        Halt { below, halted }
+        Layer {
+            below,
+            view: Halted { kinds: halted },
+        }
     }
 }
 
-impl<R: Register> Register for Halt<R> {
-    ghost accounts = { λ s. each (halt_account s.halted) (R.accounts s.below) };
+impl View for Halted {
+    ghost shows = { λ s. halt_account s.kinds };
 
-    ghost apart = { λ s. halt_apart s.halted (R.accounts s.below) (R.apart s.below) };
+    ghost keeps_code = { λ _ _. refl };
 
-    fn account(&self, code: u32) -> Option<Account> {
-        shown(account_below(&self.below, code), self.halted)
+    fn show(&self, mut account: Account) -> Account {
+        account.markets = less(account.markets, self.kinds);
+        account
     }
-
-    fn tied(&self, code: u32, party: Party) -> bool {
-        tied_below(&self.below, code, party)
-    }
-}
-
-// An account as the layer shows it.
-fn shown(found: Option<Account>, halted: Markets) -> Option<Account>
-    ensures { result ≡ on_found (halt_account halted) found }
-{
-    let mut account = found?;
-    account.markets = less(account.markets, halted);
-    Some(account)
 }
 
 // The markets that are not halted.

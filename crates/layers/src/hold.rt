@@ -1,110 +1,145 @@
 // Accounts on hold.
-ghost use Rattle.std.specs.Prelude.{◌≡◌, ℕ, ◌≤◌, true, List, take};
+ghost use Rattle.std.specs.Prelude.{◌≡◌, ◌≤◌, ℕ, true, false, List, [], length, refl, IfErr, MatchResult};
+ghost use Rattle.keyed.specs.Places.{below};
 ghost use Rattle.layers.specs.Codes.{held as is_held, rising, hold_codes, hold_answer, release_codes, release_answer};
-ghost use Rattle.layers.specs.Layers.{each, on_found, hold_account, hold_apart};
-ghost use Rattle.register.specs.Meaning.{Listed, account_in, tied_in, Apart};
+ghost use Rattle.layers.specs.Layers.{hold_account};
 
-use crate::below::{account_below, tied_below};
-use crate::codes::{is_among, put, take_out};
+use crate::layer::{Layer, View};
+use arrayvec::ArrayVec;
 use fields::range::ACCOUNT;
-use fields::{Account, Ground, Party, Refusal, Status};
-use register::Register;
+use fields::{Account, Ground, Refusal, Status};
+use std::marker::Model;
 
 pub const MOST_HOLDS: usize = 64;
 
 // Shows the accounts whose codes it keeps as blocked.
+pub type Hold<R> = Layer<R, Held>;
+
+// The codes of the accounts on hold, in rising order.
 #[derive(Drop)]
-pub struct Hold<R> {
-    below: R,
-    codes: [u32; 64],
-    count: usize,
-    ghost few: { count ≤ 64 },
-    ghost rise: { rising (take count codes) ≡ true },
+pub struct Held {
+    codes: ArrayVec<u32, MOST_HOLDS>,
+}
+
+impl Model for Held {
+    ghost Value = { List ℕ };
+
+    ghost view = { λ h. h.codes.items };
+
+    ghost invariant = { λ h. rising h.codes.items ≡ true };
 }
 
 impl<R> Hold<R> {
     // A layer that holds nothing yet.
     pub fn new(below: R) -> Self
-        ensures { (result.below ≡ below) × (result.count ≡ 0) }
+        ensures { (result.below ≡ below) × (result.view ≡ []) }
     {
-        Hold {
+        Layer {
             below,
-            codes: [0; 64],
-            count: 0,
+            view: Held::new(),
         }
     }
 
     // Whether a code is held.
     pub fn holds(&self, code: u32) -> bool
-        ensures { result ≡ is_held code (take self.now.count self.now.codes) }
+        ensures { result ≡ is_held code self.now.view }
     {
-        is_among(&self.codes[0..self.count], code)
+        self.view.has(code)
+    }
+
+    // The codes that are held, in rising order.
+    pub fn codes(&self) -> &[u32]
+        ensures value { result.now ≡ self.now.view }
+        ensures few { length self.now.view ≤ 64 }
+        ensures rise { rising self.now.view ≡ true }
+    {
+        self.view.as_slice()
     }
 
     // Holds a code; one that is held already is held once.
     pub fn hold(&mut self, code: u32) -> Result<(), Refusal>
-        ensures answer { result ≡ hold_answer code (take self.old.count self.old.codes) }
-        ensures codes { take self.new.count self.new.codes ≡ hold_codes code (take self.old.count self.old.codes) }
-        ensures below { self.new.below ≡ self.old.below }
+        ensures answer { result ≡ hold_answer code self.old.view }
+        ensures after { self.new ≡ record self.old { view = hold_codes code self.old.view } }
     {
-        if !ACCOUNT.holds(code as u64) {
-            return Err(Refusal {
-                ground: Ground::BadField,
-                place: 1,
-            });
-        }
-        if self.holds(code) {
-            return Ok(());
-        }
-        if self.count >= MOST_HOLDS {
-            return Err(Refusal {
-                ground: Ground::HoldsFull,
-                place: 0,
-            });
-        }
-        put(&mut self.codes, self.count, code);
-        self.count += 1;
-        Ok(())
+        self.view.enter(code)
     }
 
     // Releases a code; one that is not held is released too.
     pub fn release(&mut self, code: u32) -> Result<(), Refusal>
         ensures answer { result ≡ release_answer code }
-        ensures codes { take self.new.count self.new.codes ≡ release_codes code (take self.old.count self.old.codes) }
-        ensures below { self.new.below ≡ self.old.below }
+        ensures after { self.new ≡ record self.old { view = release_codes code self.old.view } }
     {
-        if !ACCOUNT.holds(code as u64) {
-            return Err(Refusal {
-                ground: Ground::BadField,
-                place: 1,
-            });
+        self.view.take_out(code)
+    }
+}
+
+impl Held {
+    fn new() -> Self
+        ensures { result ≡ [] }
+    {
+        Held {
+            codes: ArrayVec::new(),
         }
-        self.count = take_out(&mut self.codes, self.count, code);
+    }
+
+    fn as_slice(&self) -> &[u32]
+        ensures value { result.now ≡ self.now }
+        ensures few { length self.now ≤ 64 }
+        ensures rise { rising self.now ≡ true }
+    {
+        self.codes.as_slice()
+    }
+
+    // Whether a code is there, or its place.
+    fn seek(&self, code: u32) -> Result<usize, usize>
+        ensures place { MatchResult result (λ _. is_held code self.now ≡ true) (λ at. (is_held code self.now ≡ false) × (at ≡ below (λ c. c) code self.now)) }
+        ensures within { IfErr result (λ at. at ≤ length self.now) }
+    {
+        self.codes.as_slice().binary_search(&code)
+    }
+
+    fn has(&self, code: u32) -> bool
+        ensures { result ≡ is_held code self.now }
+    {
+        self.seek(code).is_ok()
+    }
+
+    #[tactic(auto, using(crate::proofs::Holding::entered_at, crate::proofs::Holding::entered_rise))]
+    fn enter(&mut self, code: u32) -> Result<(), Refusal>
+        ensures answer { result ≡ hold_answer code self.old }
+        ensures codes { self.new ≡ hold_codes code self.old }
+    {
+        ACCOUNT.test(code as u64, 1)?;
+        let Err(at) = self.seek(code) else {
+            return Ok(());
+        };
+        if self.codes.is_full() {
+            return Err(Ground::HoldsFull.at(0));
+        }
+        self.codes.insert(at, code);
+        Ok(())
+    }
+
+    #[tactic(auto, using(crate::proofs::Holding::those_retained, crate::proofs::Holding::retained_rise))]
+    fn take_out(&mut self, code: u32) -> Result<(), Refusal>
+        ensures answer { result ≡ release_answer code }
+        ensures codes { self.new ≡ release_codes code self.old }
+    {
+        ACCOUNT.test(code as u64, 1)?;
+        self.codes.retain(|held| *held != code);
         Ok(())
     }
 }
 
-impl<R: Register> Register for Hold<R> {
-    ghost accounts = { λ s. each (hold_account (take s.count s.codes)) (R.accounts s.below) };
+impl View for Held {
+    ghost shows = { hold_account };
 
-    ghost apart = { λ s. hold_apart (take s.count s.codes) (R.accounts s.below) (R.apart s.below) };
+    ghost keeps_code = { λ _ _. refl };
 
-    fn account(&self, code: u32) -> Option<Account> {
-        shown(account_below(&self.below, code), &self.codes[0..self.count])
+    fn show(&self, mut account: Account) -> Account {
+        if self.has(account.code) {
+            account.status = Status::Blocked;
+        }
+        account
     }
-
-    fn tied(&self, code: u32, party: Party) -> bool {
-        tied_below(&self.below, code, party)
-    }
-}
-
-// An account as the layer shows it.
-fn shown(found: Option<Account>, codes: &[u32]) -> Option<Account>
-    ensures { result ≡ on_found (hold_account codes.now) found }
-{
-    let mut account = found?;
-    if is_among(codes, account.code) {
-        account.status = Status::Blocked;
-    }
-    Some(account)
 }

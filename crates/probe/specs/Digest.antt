@@ -1,5 +1,5 @@
 -- A number that depends on every field of a request.
-use Rattle.std.specs.Prelude.{ℕ, ◌+◌, ◌*◌, ◌%◌, ◌^◌, Bool, cond, List, [], ◌∷◌, Ok, Err, Result}
+use Rattle.std.specs.Prelude.{ℕ, ◌+◌, ◌*◌, ◌%◌, ◌^◌, Bool, cond, List, [], ◌∷◌, Ok, Err, Result, fold}
 use Rattle.fields.specs.Grounds.{number_of}
 use Rattle.fields.specs.declared.answer.Refusal.{Refusal}
 use Rattle.fields.specs.declared.trade.Entry.{Entry}
@@ -14,15 +14,13 @@ abbrev pub mix : ℕ → ℕ → ℕ
 mix h x = (h * 31 % 2 ^ 64 + x) % 2 ^ 64
 
 abbrev pub mix_all : ℕ → List ℕ → ℕ
-mix_all h [] = h
-mix_all h (x ∷ xs) = mix_all (mix h x) xs
+mix_all start xs = fold mix start xs
 
 abbrev pub weight : Entry → ℕ
 weight e = e.account + 3 * e.quantity + 7 * e.client
 
 abbrev pub entries_from : ℕ → List Entry → ℕ
-entries_from h [] = h
-entries_from h (e ∷ es) = entries_from ((h + weight e) % 2 ^ 64) es
+entries_from start es = fold (λ h e. (h + weight e) % 2 ^ 64) start es
 
 abbrev pub kind_code : Kind → ℕ
 kind_code Selic = 1

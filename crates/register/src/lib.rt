@@ -18,7 +18,7 @@ pub trait Register {
     fn account(&self, code: u32) -> Option<Account>
         ensures { result ≡ account_in (accounts self.now) code };
 
-    // Whether that account is listed with this tie.
+    // Whether that account is listed with this tie. A code and a party are what is asked, so they stay two parameters.
     fn tied(&self, code: u32, party: Party) -> bool
         ensures { result ≡ tied_in (accounts self.now) code party };
 }

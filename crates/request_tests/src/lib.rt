@@ -8,7 +8,7 @@ mod tests {
     use std::process::Abort;
     use std::test::Fail;
 
-    // A line, the number of its refusal and the place.
+    // A line, the number of its refusal as an answer writes it, and the place.
     const BAD_LINES: [(&[u8], u8, usize); 40] = [
         (b"", 1, 1),
         (b",", 1, 1),

@@ -1,3 +1,2 @@
 pub mod Taken
-pub mod Table
 pub mod Sound

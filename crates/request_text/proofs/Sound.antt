@@ -10,7 +10,7 @@ use Rattle.fields.specs.declared.trade.Entry.{Entry}
 use Rattle.fields.specs.Grounds.{may_stand}
 use Rattle.fields.specs.Ranges.{is_in_range, minutes, numbers, numbers_or_none, participants, accounts, quantities, days, flags, entry_counts}
 use Rattle.fields.specs.declared.ground.Ground.TheVariants.{BadField, FieldCount}
-use Rattle.text.specs.Fields.{fields, number, numeral, within, single}
+use Rattle.text.specs.Fields.{number, numeral, within}
 use Rattle.text.specs.Reading.{refusal, field, then, readable, end}
 use Rattle.requests.specs.Tests.{tested, entry_tests, fields_pass, sold_range, side_call_tests, intermediation_call_tests}
 use Rattle.requests.proofs.Tested.{passed_on}
@@ -18,9 +18,9 @@ use Rattle.requests.specs.declared.request.Request.{Request}
 use Rattle.requests.specs.declared.request.Request.TheVariants.{Remove, Confirm, ConfirmIntermediation, ExcludeIntermediation}
 use Rattle.requests.specs.declared.request.SideCall.{SideCall}
 use Rattle.requests.specs.declared.request.IntermediationCall.{IntermediationCall}
-use Rattle.request_text.specs.Letters.{kind, side}
-use Rattle.request_text.specs.Entries.{entry, entries, table, blank}
-use Rattle.request_text.specs.Lines.{party, capture_line, cancel_line, include_line, side_call_line, intermediate_line, intermediation_call_line, close_line, by_letter, of_fields, request}
+use Rattle.text.specs.Groups.{entry, entry_group, party, table, values}
+use Rattle.text.specs.Words.{kind, side}
+use Rattle.request_text.specs.Lines.{capture_line, cancel_line, include_line, side_call_line, intermediate_line, intermediation_call_line, close_line, by_letter}
 
 abbrev pub Placed : Refusal → Type 0
 Placed f = may_stand f.ground f.place ≡ true
@@ -126,17 +126,17 @@ entry_sound k fs lo hi =
     by_number Q numbers_or_none (k + 2) fs _ (is_field (k + 2) (omega arith) (omega arith)) (λ c fs hc.
     rw (ha, hq, hc))))
 
-entries_sound : (n k : ℕ) (fs : List (List ℕ)) → 2 ≤ k → k + 3 * n ≤ 56 → Sound (ReadEntries n k) (entries n k fs)
+entries_sound : (n k : ℕ) (fs : List (List ℕ)) → 2 ≤ k → k + 3 * n ≤ 56 → Sound (ReadEntries n k) (values entry_group n k fs)
 entries_sound zero k fs lo hi = (refl, refl)
 entries_sound (suc n) k fs lo hi =
     then_sound (ReadEntries (suc n) k) (λ p. tested (entry_tests k (p.0 ∷ [])) ≡ Ok tt) (entry k fs) _ (entry_sound k fs lo (omega arith))
-    (λ e he. then_sound (ReadEntries (suc n) k) (ReadEntries n (k + 3)) (entries n (k + 3) e.1) _ (entries_sound n (k + 3) e.1 (omega arith) (omega arith))
+    (λ e he. then_sound (ReadEntries (suc n) k) (ReadEntries n (k + 3)) (values entry_group n (k + 3) e.1) _ (entries_sound n (k + 3) e.1 (omega arith) (omega arith))
     (λ es hes. (passed_on (entry_tests k (e.0 ∷ [])) (entry_tests (k + 3) es.0) he ∙ hes.0, ap suc hes.1)))
 
-table_sound : (n : ℕ) (fs : List (List ℕ)) → n ≤ 16 → Sound (λ p. tested (entry_tests 8 (take n p.0)) ≡ Ok tt) (table n fs)
+table_sound : (n : ℕ) (fs : List (List ℕ)) → n ≤ 16 → Sound (λ p. tested (entry_tests 8 (take n p.0)) ≡ Ok tt) (table entry_group 16 n 8 fs)
 table_sound n fs le =
-    then_sound (λ p. tested (entry_tests 8 (take n p.0)) ≡ Ok tt) (ReadEntries n 8) (entries n 8 fs) _ (entries_sound n 8 fs (omega arith) (omega arith))
-    (λ es h. ap (λ l. tested (entry_tests 8 l)) (take_at es.0 (replicate (16 - length es.0) blank) n h.1) ∙ h.0)
+    then_sound (λ p. tested (entry_tests 8 (take n p.0)) ≡ Ok tt) (ReadEntries n 8) (values entry_group n 8 fs) _ (entries_sound n 8 fs (omega arith) (omega arith))
+    (λ es h. ap (λ l. tested (entry_tests 8 l)) (take_at es.0 (replicate (16 - length es.0) entry_group.blank) n h.1) ∙ h.0)
 
 include_sound : (fs : List (List ℕ)) → Sound Passes (include_line fs)
 include_sound fs =
@@ -147,7 +147,7 @@ include_sound fs =
     by_number Passes flags 6 fs _ (refl, refl) (λ w fs hw.
     by_number Passes entry_counts 7 fs _ (refl, refl) (λ n fs hn.
     let le : n ≤ 16 = leb-true n 16 (and_parts (leb 1 n) (leb n 16) hn).1 in
-    then_sound Passes (λ p. tested (entry_tests 8 (take n p.0)) ≡ Ok tt) (table n fs) _ (table_sound n fs le) (λ es hes.
+    then_sound Passes (λ p. tested (entry_tests 8 (take n p.0)) ≡ Ok tt) (table entry_group 16 n 8 fs) _ (table_sound n fs le) (λ es hes.
     by_end Passes (8 + 3 * n) es.1 _ (is_absent (8 + 3 * n) (omega arith) (omega arith)) (rw (hm, hp, ht, hn) hes))))))))
 
 side_call_sound : (fs : List (List ℕ)) → Sound (λ c. tested (side_call_tests c) ≡ Ok tt) (side_call_line fs)
@@ -209,25 +209,17 @@ by_letter_sound (Some b) fs =
     either_sound Passes (eqb b 69) _ _ (intermediation_request ExcludeIntermediation (λ c h. h) fs) (
     either_sound Passes (eqb b 90) _ _ (close_sound fs) refl))))))))
 
--- every line
-pub request_sound : (line : List ℕ) → Sound Passes (request line)
-request_sound line = go (fields line)
-  where
-    go : (fs : List (List ℕ)) → Sound Passes (of_fields fs)
-    go [] = refl
-    go (f ∷ fs) = by_letter_sound (single f) fs
-
--- what is promised of a result that is what the line says
-module _ (line : List ℕ) (r : Result Request Refusal) (is : r ≡ request line) where
+-- what is promised of a result that the letter and what stands behind it decide
+module _ (o : Option ℕ) (fs : List (List ℕ)) (r : Result Request Refusal) (is : r ≡ by_letter o fs) where
   pub read_passes : IfOk r Passes
-  read_passes = go r (subst (Sound Passes) (sym is) (request_sound line))
+  read_passes = go r (subst (Sound Passes) (sym is) (by_letter_sound o fs))
     where
       go : (q : Result Request Refusal) → Sound Passes q → IfOk q Passes
       go (Ok v) h = h
       go (Err f) h = tt
 
   pub read_placed : IfErr r Placed
-  read_placed = go r (subst (Sound Passes) (sym is) (request_sound line))
+  read_placed = go r (subst (Sound Passes) (sym is) (by_letter_sound o fs))
     where
       go : (q : Result Request Refusal) → Sound Passes q → IfErr q Placed
       go (Ok v) h = tt

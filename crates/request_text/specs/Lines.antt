@@ -3,24 +3,16 @@ use Rattle.std.specs.Prelude.{ℕ, ◌+◌, ◌*◌, cond, List, [], ◌∷◌, 
 use Rattle.fields.specs.Ranges.{minutes, numbers, numbers_or_none, participants, accounts, quantities, days, flags, entry_counts, issued}
 use Rattle.fields.specs.declared.answer.Refusal.{Refusal}
 use Rattle.fields.specs.declared.ground.Ground.TheVariants.{UnknownLetter}
-use Rattle.fields.specs.declared.account.Party.{Party}
 use Rattle.text.specs.Fields.{fields, number, single}
+use Rattle.text.specs.Groups.{entry_group, party, table}
 use Rattle.text.specs.Reading.{refusal, then, field, end}
+use Rattle.text.specs.Words.{kind, side}
 use Rattle.requests.specs.declared.request.Request.{Request}
 use Rattle.requests.specs.declared.request.Request.TheVariants.{Capture, Cancel, Include, Remove, Confirm, Intermediate, ConfirmIntermediation, ExcludeIntermediation, Close}
 use Rattle.requests.specs.declared.request.SideCall.{SideCall}
 use Rattle.requests.specs.declared.request.IntermediationCall.{IntermediationCall}
 use Rattle.requests.specs.Tests.{sold_range}
 use Rattle.request_text.specs.declared.opening.Opening.{Opening}
-use Rattle.request_text.specs.Letters.{kind, side}
-use Rattle.request_text.specs.Entries.{table}
-
--- participant,its offeror from place k
-abbrev pub party : ℕ → List (List ℕ) → Result (Party × List (List ℕ)) Refusal
-party k fs =
-    then (field (number participants) k fs) (λ p.
-    then (field (number participants) (k + 1) p.1) (λ o.
-    Ok (record { participant = p.0; offeror = o.0 }, o.1)))
 
 -- C,minute,trade,kind,asset,quantity,settlement,buyer,its offeror,seller,its offeror
 abbrev pub capture_line : List (List ℕ) → Result Request Refusal
@@ -53,7 +45,7 @@ include_line fs =
     then (field side 5 t.1) (λ s.
     then (field (number flags) 6 s.1) (λ w.
     then (field (number entry_counts) 7 w.1) (λ n.
-    then (table n.0 n.1) (λ es.
+    then (table entry_group 16 n.0 8 n.1) (λ es.
     then (end (8 + 3 * n.0) es.1) (λ _.
     Ok (Include (record { minute = m.0; participant = p.0; trade = t.0; side = s.0; now = (w.0 == 1); count = n.0; entries = es.0 }))))))))))
 

@@ -1,7 +1,6 @@
 // Request lines: from bytes to requests.
 #![tactic(auto)]
 
-pub mod letters;
 pub mod opening;
 pub mod reader;
 

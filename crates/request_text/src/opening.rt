@@ -7,7 +7,7 @@ use fields::{Ground, Refusal};
 use text::{read_end, read_number, read_u32, split_letter};
 
 // The first line of a day: the book's day, and the first and last number of the band.
-#[derive(Clone, Copy)]
+#[derive(Clone, Copy, Debug, PartialEq, Eq)]
 pub struct Opening {
     pub day: u32,
     pub first: u64,
@@ -26,20 +26,12 @@ fn read_fields(rest: &[u8]) -> Result<Opening, Refusal>
 }
 
 // What the first line of a day says, or why it is refused.
+#[tactic(auto, using(crate::proofs::Taken::opening_is))]
 pub fn read_opening(line: &[u8]) -> Result<Opening, Refusal>
     ensures { result ≡ openingOf line.now }
 {
-    let Some((letter, rest)) = split_letter(line) else {
-        return Err(Refusal {
-            ground: Ground::UnknownLetter,
-            place: 1,
-        });
+    let Some((b'N', rest)) = split_letter(line) else {
+        return Err(Ground::UnknownLetter.at(1));
     };
-    if letter != b'N' {
-        return Err(Refusal {
-            ground: Ground::UnknownLetter,
-            place: 1,
-        });
-    }
     read_fields(rest)
 }

@@ -1,36 +1,20 @@
-ghost use Rattle.std.specs.Prelude.{◌≡◌, ◌+◌, ◌*◌, ◌≤◌, true, IfOk, IfErr, Some, Ok};
+ghost use Rattle.std.specs.Prelude.{◌≡◌, true, IfOk, IfErr, Some, Ok};
 ghost use Rattle.fields.specs.Grounds.{may_stand};
 ghost use Rattle.requests.specs.Tests.{fields_pass};
-ghost use Rattle.text.specs.Cuts.{left, seen};
-ghost use Rattle.request_text.specs.Entries.{entry as entryIn, table};
-ghost use Rattle.request_text.specs.Lines.{by_letter, cancel_line, capture_line, close_line, include_line, intermediate_line, intermediation_call_line, party as partyIn, request as requestOf, side_call_line};
+ghost use Rattle.text.specs.Cuts.{left};
+ghost use Rattle.request_text.specs.Lines.{by_letter, cancel_line, capture_line, close_line, include_line, intermediate_line, intermediation_call_line, request as requestOf, side_call_line};
 
-use crate::letters::{read_kind, read_side};
 use fields::range::{
     ACCOUNT, DAY, ENTRIES, FLAG, MINUTE, NUMBER, NUMBER_OR_NONE, PARTICIPANT, QUANTITY,
 };
 use fields::{Entry, Ground, Intermediation, Party, Refusal, Terms};
 use requests::{
     Cancellation, Closing, Inclusion, IntermediationCall, NewIntermediation, NewTrade, Request,
-    SideCall,
+    SideCall, sold_range,
 };
-use text::{read_end, read_u32, split_letter};
+use text::{Group, read_as, read_end, read_into, read_u32, split_letter};
 
-// participant,its offeror
-fn read_party<'a>(rest: &'a [u8], place: usize) -> Result<(Party, &'a [u8]), Refusal>
-    requires { place ≤ 10 }
-    ensures { partyIn place (left rest.now) ≡ seen result }
-{
-    let (participant, rest) = read_u32(rest, place, PARTICIPANT)?;
-    let (offeror, rest) = read_u32(rest, place + 1, PARTICIPANT)?;
-    Ok((
-        Party {
-            participant,
-            offeror,
-        },
-        rest,
-    ))
-}
+// Each reader of a line takes its fields in turn and leaves at the first fault; so they are alike, and none is longer than its line.
 
 // C,minute,trade,kind,asset,quantity,settlement,buyer,its offeror,seller,its offeror
 fn read_capture(rest: &[u8]) -> Result<Request, Refusal>
@@ -38,12 +22,12 @@ fn read_capture(rest: &[u8]) -> Result<Request, Refusal>
 {
     let (minute, rest) = read_u32(rest, 2, MINUTE)?;
     let (number, rest) = read_u32(rest, 3, NUMBER)?;
-    let (kind, rest) = read_kind(rest, 4)?;
+    let (kind, rest) = read_as(rest, 4)?;
     let (asset, rest) = read_u32(rest, 5, NUMBER)?;
     let (quantity, rest) = read_u32(rest, 6, QUANTITY)?;
     let (settlement, rest) = read_u32(rest, 7, DAY)?;
-    let (buyer, rest) = read_party(rest, 8)?;
-    let (seller, rest) = read_party(rest, 10)?;
+    let (buyer, rest) = Party::read(rest, 8)?;
+    let (seller, rest) = Party::read(rest, 10)?;
     read_end(rest, 12)?;
     let terms = Terms {
         number,
@@ -67,44 +51,6 @@ fn read_cancel(rest: &[u8]) -> Result<Request, Refusal>
     Ok(Request::Cancel(Cancellation { minute, trade }))
 }
 
-// account,quantity,client of the entry at `index`
-fn read_entry<'a>(rest: &'a [u8], index: usize) -> Result<(Entry, &'a [u8]), Refusal>
-    requires { index ≤ 15 }
-    ensures { entryIn (8 + 3 * index) (left rest.now) ≡ seen result }
-{
-    let place = 8 + 3 * index;
-    let (account, rest) = read_u32(rest, place, ACCOUNT)?;
-    let (quantity, rest) = read_u32(rest, place + 1, QUANTITY)?;
-    let (client, rest) = read_u32(rest, place + 2, NUMBER_OR_NONE)?;
-    Ok((
-        Entry {
-            account,
-            quantity,
-            client,
-        },
-        rest,
-    ))
-}
-
-// The table that `count` entries make.
-fn read_entries<'a>(text: &'a [u8], count: usize) -> Result<([Entry; 16], &'a [u8]), Refusal>
-    requires { count ≤ 16 }
-    ensures { table count (left text.now) ≡ seen result }
-{
-    let mut entries = [Entry {
-        account: 0,
-        quantity: 0,
-        client: 0,
-    }; 16];
-    let mut rest = text;
-    for i in 0..count {
-        let (entry, tail) = read_entry(rest, i)?;
-        entries[i] = entry;
-        rest = tail;
-    }
-    Ok((entries, rest))
-}
-
 // I,minute,participant,trade,side,now,n and n entries
 fn read_include(rest: &[u8]) -> Result<Request, Refusal>
     ensures { result ≡ include_line (left rest.now) }
@@ -112,17 +58,19 @@ fn read_include(rest: &[u8]) -> Result<Request, Refusal>
     let (minute, rest) = read_u32(rest, 2, MINUTE)?;
     let (participant, rest) = read_u32(rest, 3, PARTICIPANT)?;
     let (trade, rest) = read_u32(rest, 4, NUMBER)?;
-    let (side, rest) = read_side(rest, 5)?;
+    let (side, rest) = read_as(rest, 5)?;
     let (flag, rest) = read_u32(rest, 6, FLAG)?;
     let (count, rest) = read_u32(rest, 7, ENTRIES)?;
     let count = count as usize;
-    let (entries, rest) = read_entries(rest, count)?;
+    let mut entries = [Entry::default(); 16];
+    let rest = read_into(rest, 8, &mut entries[..count])?;
     read_end(rest, 8 + 3 * count)?;
     Ok(Request::Include(Inclusion {
         minute,
         participant,
         trade,
         side,
+        // a line has a number, 0 or 1, for it
         now: flag == 1,
         count,
         entries,
@@ -136,7 +84,7 @@ fn read_side_call(rest: &[u8]) -> Result<SideCall, Refusal>
     let (minute, rest) = read_u32(rest, 2, MINUTE)?;
     let (participant, rest) = read_u32(rest, 3, PARTICIPANT)?;
     let (trade, rest) = read_u32(rest, 4, NUMBER)?;
-    let (side, rest) = read_side(rest, 5)?;
+    let (side, rest) = read_as(rest, 5)?;
     read_end(rest, 6)?;
     Ok(SideCall {
         minute,
@@ -155,8 +103,7 @@ fn read_intermediate(rest: &[u8]) -> Result<Request, Refusal>
     let (id, rest) = read_u32(rest, 4, NUMBER)?;
     let (account, rest) = read_u32(rest, 5, ACCOUNT)?;
     let (bought, rest) = read_u32(rest, 6, NUMBER_OR_NONE)?;
-    let sold_range = if bought == 0 { NUMBER } else { NUMBER_OR_NONE };
-    let (sold, rest) = read_u32(rest, 7, sold_range)?;
+    let (sold, rest) = read_u32(rest, 7, sold_range(bought))?;
     let (flag, rest) = read_u32(rest, 8, FLAG)?;
     read_end(rest, 9)?;
     let intermediation = Intermediation {
@@ -169,6 +116,7 @@ fn read_intermediate(rest: &[u8]) -> Result<Request, Refusal>
     Ok(Request::Intermediate(NewIntermediation {
         minute,
         intermediation,
+        // a line has a number, 0 or 1, for it
         now: flag == 1,
     }))
 }
@@ -206,31 +154,26 @@ fn read_fields(letter: u8, rest: &[u8]) -> Result<Request, Refusal>
         b'C' => read_capture(rest),
         b'X' => read_cancel(rest),
         b'I' => read_include(rest),
-        b'D' => Ok(Request::Remove(read_side_call(rest)?)),
-        b'F' => Ok(Request::Confirm(read_side_call(rest)?)),
+        b'D' => read_side_call(rest).map(Request::Remove),
+        b'F' => read_side_call(rest).map(Request::Confirm),
         b'J' => read_intermediate(rest),
-        b'G' => Ok(Request::ConfirmIntermediation(read_intermediation_call(rest)?)),
-        b'E' => Ok(Request::ExcludeIntermediation(read_intermediation_call(rest)?)),
+        b'G' => read_intermediation_call(rest).map(Request::ConfirmIntermediation),
+        b'E' => read_intermediation_call(rest).map(Request::ExcludeIntermediation),
         b'Z' => read_close(rest),
-        _ => Err(Refusal {
-            ground: Ground::UnknownLetter,
-            place: 1,
-        }),
+        _ => Err(Ground::UnknownLetter.at(1)),
     }
 }
 
 // What a request line asks, or why it is refused. What is read passes the tests of a direct call,
 // and a refusal stands at a place of its ground.
+#[tactic(auto, using(crate::proofs::Taken::request_is))]
 pub fn read_request(line: &[u8]) -> Result<Request, Refusal>
     ensures value { result ≡ requestOf line.now }
     ensures passes { IfOk result (λ v. fields_pass v ≡ Ok tt) }
     ensures placed { IfErr result (λ f. may_stand f.ground f.place ≡ true) }
 {
     let Some((letter, rest)) = split_letter(line) else {
-        return Err(Refusal {
-            ground: Ground::UnknownLetter,
-            place: 1,
-        });
+        return Err(Ground::UnknownLetter.at(1));
     };
     read_fields(letter, rest)
 }

@@ -11,6 +11,7 @@ use Rattle.fields.specs.declared.trade.Side.TheVariants.{Buyer, Seller}
 use Rattle.text.specs.Fields.{number}
 use Rattle.writing.specs.declared.piece.Piece.{Piece}
 use Rattle.writing.specs.Written.{line_of}
+use Rattle.fields.specs.Letters.{kind_letter, side_letter}
 use Rattle.requests.specs.Tests.{tested, entry_tests, fields_pass, field_tests, sold_range, side_call_tests, intermediation_call_tests}
 use Rattle.requests.proofs.Tested.{AllIn, all_in}
 use Rattle.requests.specs.declared.request.Request.{Request}
@@ -22,11 +23,11 @@ use Rattle.requests.specs.declared.request.SideCall.{SideCall}
 use Rattle.requests.specs.declared.request.NewIntermediation.{NewIntermediation}
 use Rattle.requests.specs.declared.request.IntermediationCall.{IntermediationCall}
 use Rattle.requests.specs.declared.request.Closing.{Closing}
-use Rattle.request_text.specs.Letters.{kind, side}
-use Rattle.request_text.specs.Entries.{entries}
+use Rattle.text.specs.Groups.{entry_group, values}
+use Rattle.text.specs.Words.{kind, side}
 use Rattle.request_text.specs.Lines.{request, of_fields, side_call_line, intermediation_call_line}
 use Rattle.request_writer.specs.RoundTrip.{ReadsBack}
-use Rattle.request_writer.specs.Canonical.{pieces_of, request_line, tidy, kind_letter, side_letter, flag, entry_pieces, side_call_pieces, intermediation_call_pieces}
+use Rattle.request_writer.specs.Canonical.{pieces_of, request_line, tidy, flag, entry_pieces, side_call_pieces, intermediation_call_pieces}
 use Rattle.request_writer.proofs.Plain.{NoComma, Plain, texts, no_comma_decimal, number_back, fields_line}
 
 -- a number of a range that 64 bits hold: no comma in its figures, and it reads back
@@ -133,7 +134,7 @@ entries_plain [] k h = tt
 entries_plain (e ∷ es) k h =
     (plain accounts e.account (omega arith) h.0, (plain quantities e.quantity (omega arith) h.1.0, (plain numbers_or_none e.client (omega arith) h.1.1.0, entries_plain es (k + 3) h.1.1.1)))
 
-entries_back : (es : List Entry) (k : ℕ) → AllIn (entry_tests k es) → entries (length es) k (texts (entry_pieces es)) ≡ Ok (es, [])
+entries_back : (es : List Entry) (k : ℕ) → AllIn (entry_tests k es) → values entry_group (length es) k (texts (entry_pieces es)) ≡ Ok (es, [])
 entries_back [] k h = refl
 entries_back (e ∷ es) k h =
     rw (back accounts e.account (omega arith) h.0, back quantities e.quantity (omega arith) h.1.0, back numbers_or_none e.client (omega arith) h.1.1.0, entries_back es (k + 3) h.1.1.1)
@@ -144,7 +145,7 @@ include_back c sixteen h =
     let p2 = all_in (field_tests (Include c)) h in let p3 = p2.1 in let p4 = p3.1 in let p7 = p4.1 in let p8 = p7.1 in
     let le : c.count ≤ 16 = leb-true c.count 16 (and_parts (leb 1 c.count) (leb c.count 16) p7.0).1 in
     let n : length es ≡ c.count = length-take-le c.count c.entries (omega arith) in
-    let read : entries c.count 8 (texts (entry_pieces es)) ≡ Ok (es, []) = subst (λ k. entries k 8 (texts (entry_pieces es)) ≡ Ok (es, [])) n (entries_back es 8 p8) in
+    let read : values entry_group c.count 8 (texts (entry_pieces es)) ≡ Ok (es, []) = subst (λ k. values entry_group k 8 (texts (entry_pieces es)) ≡ Ok (es, [])) n (entries_back es 8 p8) in
     from_texts 73 (pieces_of (Include c)) (λ e. omega arith) (tidy (Include c)) (
       plain minutes c.minute (omega arith) p2.0,
       (

@@ -1,10 +1,7 @@
 -- The canonical line of a request: the one way of writing it.
 use Rattle.std.specs.Prelude.{ℕ, Bool, cond, List, [], ◌∷◌, take}
 use Rattle.fields.specs.declared.trade.Entry.{Entry}
-use Rattle.fields.specs.declared.trade.Kind.{Kind}
-use Rattle.fields.specs.declared.trade.Kind.TheVariants.{Selic, Deposited, Registered}
-use Rattle.fields.specs.declared.trade.Side.{Side}
-use Rattle.fields.specs.declared.trade.Side.TheVariants.{Buyer, Seller}
+use Rattle.fields.specs.Letters.{kind_letter, side_letter}
 use Rattle.writing.specs.declared.piece.Piece.{Piece}
 use Rattle.writing.specs.declared.piece.Piece.TheVariants.{Letter, Number}
 use Rattle.writing.specs.Written.{line_of}
@@ -13,18 +10,7 @@ use Rattle.requests.specs.declared.request.Request.TheVariants.{Capture, Cancel,
 use Rattle.requests.specs.declared.request.Inclusion.{Inclusion}
 use Rattle.requests.specs.declared.request.SideCall.{SideCall}
 use Rattle.requests.specs.declared.request.IntermediationCall.{IntermediationCall}
-use Rattle.request_text.specs.Entries.{padded}
-
--- S, D or R
-abbrev pub kind_letter : Kind → ℕ
-kind_letter Selic = 83
-kind_letter Deposited = 68
-kind_letter Registered = 82
-
--- B or S
-abbrev pub side_letter : Side → ℕ
-side_letter Buyer = 66
-side_letter Seller = 83
+use Rattle.text.specs.Groups.{entry_group, padded}
 
 abbrev pub flag : Bool → ℕ
 flag b = cond b 1 0
@@ -84,7 +70,7 @@ request_line r = line_of (letter_of r) (pieces_of r)
 abbrev pub tidy : Request → Request
 tidy (Capture c) = Capture c
 tidy (Cancel c) = Cancel c
-tidy (Include c) = Include (record { minute = c.minute; participant = c.participant; trade = c.trade; side = c.side; now = c.now; count = c.count; entries = padded (take c.count c.entries) })
+tidy (Include c) = Include (record { minute = c.minute; participant = c.participant; trade = c.trade; side = c.side; now = c.now; count = c.count; entries = padded entry_group 16 (take c.count c.entries) })
 tidy (Remove c) = Remove c
 tidy (Confirm c) = Confirm c
 tidy (Intermediate c) = Intermediate c

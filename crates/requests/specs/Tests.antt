@@ -34,11 +34,15 @@ entry_tests k [] = []
 entry_tests k (e ∷ es) =
     at k accounts e.account ∷ at (k + 1) quantities e.quantity ∷ at (k + 2) numbers_or_none e.client ∷ entry_tests (k + 3) es
 
+-- the minute, the caller, and a trade or an intermediation
+abbrev pub call_tests : ℕ → ℕ → ℕ → List Test
+call_tests minute participant number = at 2 minutes minute ∷ at 3 participants participant ∷ at 4 numbers number ∷ []
+
 abbrev pub side_call_tests : SideCall → List Test
-side_call_tests c = at 2 minutes c.minute ∷ at 3 participants c.participant ∷ at 4 numbers c.trade ∷ []
+side_call_tests c = call_tests c.minute c.participant c.trade
 
 abbrev pub intermediation_call_tests : IntermediationCall → List Test
-intermediation_call_tests c = at 2 minutes c.minute ∷ at 3 participants c.participant ∷ at 4 numbers c.id ∷ []
+intermediation_call_tests c = call_tests c.minute c.participant c.id
 
 -- The places are those of the request's line. Letters and flags cannot be out of range.
 abbrev pub field_tests : Request → List Test

@@ -4,7 +4,7 @@
 pub mod check;
 pub mod request;
 
-pub use check::check_fields;
+pub use check::{check_fields, sold_range};
 pub use request::{
     Cancellation, Closing, Inclusion, IntermediationCall, NewIntermediation, NewTrade, Request,
     SideCall,

@@ -2,21 +2,22 @@
 use fields::{Entry, Intermediation, Side, Terms};
 
 // C: captures a trade.
-#[derive(Clone, Copy)]
+#[derive(Clone, Copy, Debug, PartialEq, Eq)]
 pub struct NewTrade {
     pub minute: u32,
     pub terms: Terms,
 }
 
 // X: cancels a trade.
-#[derive(Clone, Copy)]
+#[derive(Clone, Copy, Debug, PartialEq, Eq)]
 pub struct Cancellation {
     pub minute: u32,
     pub trade: u32,
 }
 
-// I: the first `count` entries replace those of the side; `now` also confirms it.
-#[derive(Clone, Copy)]
+// I: the first `count` entries replace those of the side; `now` also confirms it. The count stands beside a fixed table, since a caller
+// may hand in any count, which is then refused, and nothing is allocated.
+#[derive(Clone, Copy, Debug, PartialEq, Eq)]
 pub struct Inclusion {
     pub minute: u32,
     pub participant: u32,
@@ -28,7 +29,7 @@ pub struct Inclusion {
 }
 
 // D and F: empties or confirms one side of a trade.
-#[derive(Clone, Copy)]
+#[derive(Clone, Copy, Debug, PartialEq, Eq)]
 pub struct SideCall {
     pub minute: u32,
     pub participant: u32,
@@ -37,7 +38,7 @@ pub struct SideCall {
 }
 
 // J: enters an intermediation; `now` also confirms its sides.
-#[derive(Clone, Copy)]
+#[derive(Clone, Copy, Debug, PartialEq, Eq)]
 pub struct NewIntermediation {
     pub minute: u32,
     pub intermediation: Intermediation,
@@ -45,7 +46,7 @@ pub struct NewIntermediation {
 }
 
 // G and E: confirms or excludes an intermediation.
-#[derive(Clone, Copy)]
+#[derive(Clone, Copy, Debug, PartialEq, Eq)]
 pub struct IntermediationCall {
     pub minute: u32,
     pub participant: u32,
@@ -53,13 +54,13 @@ pub struct IntermediationCall {
 }
 
 // Z: closes the day and moves the book to a later one.
-#[derive(Clone, Copy)]
+#[derive(Clone, Copy, Debug, PartialEq, Eq)]
 pub struct Closing {
     pub minute: u32,
     pub day: u32,
 }
 
-#[derive(Clone, Copy)]
+#[derive(Clone, Copy, Debug, PartialEq, Eq)]
 pub enum Request {
     Capture(NewTrade),
     Cancel(Cancellation),

@@ -7,21 +7,13 @@ use fields::{Account, AccountType, Kind, Markets, Status};
 pub fn is_selic(kind: Kind) -> bool
     ensures { result ≡ is_selic kind }
 {
-    match kind {
-        Kind::Selic => true,
-        Kind::Deposited | Kind::Registered => false,
-    }
+    kind == Kind::Selic
 }
 
 pub fn are_same_kind(one: Kind, two: Kind) -> bool
     ensures { result ≡ same_kind one two }
 {
-    match (one, two) {
-        (Kind::Selic, Kind::Selic) => true,
-        (Kind::Deposited, Kind::Deposited) => true,
-        (Kind::Registered, Kind::Registered) => true,
-        _ => false,
-    }
+    one == two
 }
 
 fn has_market(markets: Markets, kind: Kind) -> bool
@@ -37,40 +29,28 @@ fn has_market(markets: Markets, kind: Kind) -> bool
 fn is_selic_type(class: AccountType) -> bool
     ensures { result ≡ selic_type class }
 {
-    match class {
-        AccountType::SL | AccountType::SI => true,
-        _ => false,
-    }
+    matches!(class, AccountType::SL | AccountType::SI)
 }
 
 // Whether accounts of this type are intermediation accounts.
 pub fn is_intermediation_type(class: AccountType) -> bool
     ensures { result ≡ intermediation_type class }
 {
-    match class {
-        AccountType::SI | AccountType::IN => true,
-        _ => false,
-    }
+    matches!(class, AccountType::SI | AccountType::IN)
 }
 
 // Whether accounts of this type may stand on both sides of a trade.
 pub fn is_both_sides_type(class: AccountType) -> bool
     ensures { result ≡ both_sides_type class }
 {
-    match class {
-        AccountType::C1 | AccountType::C2 => true,
-        _ => false,
-    }
+    matches!(class, AccountType::C1 | AccountType::C2)
 }
 
 // Whether the account is not blocked, and was registered before the book's day.
 pub fn is_active(day: u32, account: &Account) -> bool
     ensures { result ≡ active day account.now }
 {
-    match account.status {
-        Status::Active => account.day < day,
-        Status::Blocked => false,
-    }
+    account.status == Status::Active && account.day < day
 }
 
 // Whether the account suits the kind by its type and by its markets.

@@ -9,11 +9,11 @@ use fields::Terms;
 fn last_minute(day: u32, terms: &Terms) -> u32
     ensures { result ≡ last_minute day terms.now }
 {
-    let selic = is_selic(terms.kind);
-    if terms.settlement <= day {
-        if selic { 1_080 } else { 1_060 }
-    } else {
-        if selic { 1_200 } else { 1_170 }
+    match (terms.settlement <= day, is_selic(terms.kind)) {
+        (true, true) => 1_080,
+        (true, false) => 1_060,
+        (false, true) => 1_200,
+        (false, false) => 1_170,
     }
 }
 

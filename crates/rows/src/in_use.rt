@@ -4,10 +4,9 @@ ghost use Rattle.rows.specs.InUse.{good_allocation, good_entry, good_terms, good
 ghost use Rattle.rows.specs.Trades.{number};
 
 use crate::row::{Allocation, KeptEntry, Trade};
-use crate::tables::all_good;
 use fields::Terms;
-use fields::range::{ACCOUNT, DAY, ENTRIES, NUMBER, NUMBER_OR_NONE, PARTICIPANT, QUANTITY};
-use keyed::{Checked, Keyed};
+use fields::range::{ACCOUNT, DAY, ENTRIES, NUMBER, NUMBER_OR_NONE, QUANTITY};
+use keyed::{Checked, Keyed, all_good};
 
 impl Keyed for Trade {
     ghost key = { number };
@@ -44,10 +43,8 @@ fn are_terms_good(terms: &Terms) -> bool
         && NUMBER.holds(terms.asset as u64)
         && QUANTITY.holds(terms.quantity as u64)
         && DAY.holds(terms.settlement as u64)
-        && PARTICIPANT.holds(terms.buyer.participant as u64)
-        && PARTICIPANT.holds(terms.buyer.offeror as u64)
-        && PARTICIPANT.holds(terms.seller.participant as u64)
-        && PARTICIPANT.holds(terms.seller.offeror as u64)
+        && terms.buyer.is_good()
+        && terms.seller.is_good()
 }
 
 impl Checked for Trade {

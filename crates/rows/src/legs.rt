@@ -14,7 +14,8 @@ pub fn other_side(side: Side) -> Side
     }
 }
 
-// The trade whose buyer side, or whose seller side, the intermediation holds; 0 for none.
+// The trade whose buyer side, or whose seller side, the intermediation holds; 0 for none. What picks by the side is a match of two arms each time:
+// a generic pick would be one more such match, with its callers as long as they are.
 pub fn leg_of(intermediation: &Intermediation, side: Side) -> u32
     ensures { result ≡ leg side intermediation.now }
 {

@@ -8,7 +8,7 @@ use fields::{AccountType, Entry};
 
 // The first entries of the table are included, their number given; all are removed; they are confirmed;
 // or the first is tied to an intermediation, its id given.
-#[derive(Clone, Copy)]
+#[derive(Clone, Copy, Debug, PartialEq, Eq)]
 pub enum Event {
     Include(usize),
     Remove,
@@ -41,19 +41,13 @@ impl Allocation {
     pub fn is_empty(&self) -> bool
         ensures { result ≡ is_empty self.now.state }
     {
-        match self.state {
-            AllocationState::Empty => true,
-            AllocationState::Allocated | AllocationState::Confirmed => false,
-        }
+        self.state == AllocationState::Empty
     }
 
     pub fn is_confirmed(&self) -> bool
         ensures { result ≡ is_confirmed self.now.state }
     {
-        match self.state {
-            AllocationState::Confirmed => true,
-            AllocationState::Empty | AllocationState::Allocated => false,
-        }
+        self.state == AllocationState::Confirmed
     }
 
     // The entries that the side holds, whatever its count says.
@@ -62,13 +56,9 @@ impl Allocation {
         ensures few { length result.now ≤ 16 }
     {
         if self.is_empty() {
-            return &self.entries[0..0];
+            return &[];
         }
-        if self.count < 16 {
-            &self.entries[0..self.count]
-        } else {
-            &self.entries
-        }
+        &self.entries[..self.count.min(16)]
     }
 
     // Puts one entry into the table.
@@ -83,8 +73,7 @@ impl Allocation {
     pub fn happen(&mut self, event: Event)
         ensures { self.new ≡ after event self.old }
     {
-        let met = (self.state, event);
-        match met {
+        match (self.state, event) {
             (_, Event::Include(count)) => self.set(AllocationState::Allocated, 0, count),
             (_, Event::Tie(id)) => self.set(AllocationState::Allocated, id, 1),
             (AllocationState::Empty, Event::Confirm) => {}

@@ -2,13 +2,13 @@
 use fields::{AccountType, Entry, Terms};
 
 // An entry as it is kept: with the account type found when it was included.
-#[derive(Clone, Copy)]
+#[derive(Clone, Copy, Debug, PartialEq, Eq)]
 pub struct KeptEntry {
     pub entry: Entry,
     pub found: AccountType,
 }
 
-#[derive(Clone, Copy, PartialEq)]
+#[derive(Clone, Copy, Debug, PartialEq, Eq)]
 pub enum AllocationState {
     Empty,
     Allocated,
@@ -16,7 +16,8 @@ pub enum AllocationState {
 }
 
 // What stands on a side of a trade: its first `count` entries, and the intermediation that holds the side, or 0.
-#[derive(Clone, Copy)]
+// Rows are lent tables of plain numbers, so 0 stands for no intermediation, and the count beside the entries.
+#[derive(Clone, Copy, Debug, PartialEq, Eq)]
 pub struct Allocation {
     pub state: AllocationState,
     pub tie: u32,
@@ -24,7 +25,7 @@ pub struct Allocation {
     pub entries: [KeptEntry; 16],
 }
 
-#[derive(Clone, Copy, PartialEq)]
+#[derive(Clone, Copy, Debug, PartialEq, Eq)]
 pub enum TradeState {
     Open,
     Cancelled,
@@ -32,7 +33,7 @@ pub enum TradeState {
 }
 
 // A row of the trades; `marked` says that it is cancelled only in the trading system.
-#[derive(Clone, Copy)]
+#[derive(Clone, Copy, Debug, PartialEq, Eq)]
 pub struct Trade {
     pub terms: Terms,
     pub state: TradeState,

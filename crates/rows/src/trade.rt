@@ -1,8 +1,9 @@
 // A row of the trades, read and changed.
-ghost use Rattle.std.specs.Prelude.{◌≡◌, ◌<◌, false};
+ghost use Rattle.std.specs.Prelude.{◌≡◌, ◌<◌};
+ghost use Rattle.std.specs.Borrow.{sem};
+ghost use Rattle.rows.specs.Lending.{LendsSide};
 ghost use Rattle.rows.specs.Machine.{after, with_entry};
-ghost use Rattle.rows.specs.Trades.{allocation, at_side, both_confirmed, cancelled, captured, in_state, is_cancelled, is_numbered, marked, numbered, party};
-ghost use Rattle.rows.specs.declared.row.TradeState.TheVariants.{Cancelled};
+ghost use Rattle.rows.specs.Trades.{allocation, at_side, both_confirmed, cancelled, captured, is_cancelled, is_numbered, marked, numbered, party};
 
 use crate::machine::Event;
 use crate::row::{Allocation, KeptEntry, Trade, TradeState};
@@ -35,19 +36,13 @@ impl Trade {
     pub fn is_cancelled(&self) -> bool
         ensures { result ≡ is_cancelled self.now.state }
     {
-        match self.state {
-            TradeState::Cancelled => true,
-            TradeState::Open | TradeState::Numbered => false,
-        }
+        self.state == TradeState::Cancelled
     }
 
     pub fn is_numbered(&self) -> bool
         ensures { result ≡ is_numbered self.now.state }
     {
-        match self.state {
-            TradeState::Numbered => true,
-            TradeState::Open | TradeState::Cancelled => false,
-        }
+        self.state == TradeState::Numbered
     }
 
     pub fn is_confirmed(&self) -> bool
@@ -65,15 +60,22 @@ impl Trade {
         }
     }
 
+    fn side_mut(&mut self, side: Side) -> &mut Allocation
+        ensures* writes_back { sem 𝓛 (LendsSide self.entry side result) }
+        ensures value { result.now ≡ allocation side self.old }
+    {
+        match side {
+            Side::Buyer => &mut self.buyer,
+            Side::Seller => &mut self.seller,
+        }
+    }
+
     // Puts one entry into the table of a side.
     pub fn put_entry(&mut self, side: Side, at: usize, entry: KeptEntry)
         requires { at < 16 }
         ensures { self.new ≡ at_side side (with_entry at entry) self.old }
     {
-        match side {
-            Side::Buyer => self.buyer.put(at, entry),
-            Side::Seller => self.seller.put(at, entry),
-        }
+        self.side_mut(side).put(at, entry);
     }
 
     // Lets an event happen to a side.
@@ -81,10 +83,7 @@ impl Trade {
         ensures row { self.new ≡ at_side side (after event) self.old }
         ensures terms { self.new.terms ≡ self.old.terms }
     {
-        match side {
-            Side::Buyer => self.buyer.happen(event),
-            Side::Seller => self.seller.happen(event),
-        }
+        self.side_mut(side).happen(event);
     }
 
     // All its sides are confirmed, and its pairs are written.
@@ -107,12 +106,6 @@ impl Trade {
     {
         self.buyer.happen(Event::Remove);
         self.seller.happen(Event::Remove);
-        self.end();
-    }
-
-    fn end(&mut self)
-        ensures { self.new ≡ in_state Cancelled false self.old }
-    {
         self.state = TradeState::Cancelled;
         self.marked = false;
     }

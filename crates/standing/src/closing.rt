@@ -7,6 +7,7 @@ use fields::{Ground, Refusal};
 use requests::Closing;
 
 // 12: late enough, and to a later day.
+#[tactic(auto, unfolding(book::specs::Verdicts::closing_verdict))]
 pub fn closing_passes(day: u32, request: &Closing) -> Result<(), Refusal>
     ensures { Judges (closing_verdict day request.now) (λ _. Unit {0}) result }
 {

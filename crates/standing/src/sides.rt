@@ -11,6 +11,7 @@ use fields::{Ground, Intermediation, Refusal, Side};
 use rows::{Allocation, Trade, party_of};
 
 // 13, 14, 15: the side is the caller's, is not confirmed, and is held by no intermediation.
+#[tactic(auto, unfolding(book::specs::Verdicts::side_verdict))]
 pub fn side_free(place: usize, caller: u32, side: Side, trade: &Trade) -> Result<(), Refusal>
     ensures { Judges (side_verdict place caller side trade.now) (λ _. Free side trade.now) result }
 {
@@ -25,6 +26,7 @@ pub fn side_free(place: usize, caller: u32, side: Side, trade: &Trade) -> Result
 }
 
 // 16: the side holds something.
+#[tactic(auto, unfolding(book::specs::Verdicts::empty_verdict))]
 pub fn side_filled(side: &Allocation) -> Result<(), Refusal>
     ensures { Judges (empty_verdict side.now.state) (λ _. is_empty side.now.state ≡ false) result }
 {
@@ -33,6 +35,7 @@ pub fn side_filled(side: &Allocation) -> Result<(), Refusal>
 
 // 7, 8, 9, 11, 13, 14, 15: the trade with this number stands, and its side is free for the caller.
 // Answers the place of the trade, and its chain.
+#[tactic(auto, unfolding(book::specs::Verdicts::on_side_verdict))]
 pub fn side_stands(
     day: u32,
     minute: u32,

@@ -10,6 +10,7 @@ use fields::{Ground, Intermediation, Pair, Refusal};
 use rows::{Trade, is_whole, stands};
 
 // 4: each table has its rows, within its limit, with every field in use in range; and a keyed one rises.
+#[tactic(auto, unfolding(book::specs::Verdicts::tables_verdict))]
 pub fn tables_stand(
     book: &Book,
     trades: &[Trade],

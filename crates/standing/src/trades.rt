@@ -12,6 +12,7 @@ use keyed::find;
 use rows::{Trade, has_key, has_room, is_in_time};
 
 // 5, 6, 10, 11: a trade with these terms can be captured.
+#[tactic(auto, unfolding(book::specs::Verdicts::capture_verdict))]
 pub fn capturable(
     day: u32,
     minute: u32,
@@ -31,6 +32,9 @@ pub fn capturable(
 
 // 7, 8, 9, 11: the trade with this number is there, is not cancelled, its chain is not broken, and it is not too late
 // for it. Answers the place of the trade, and its chain as `follow` does.
+// Day, minute and both tables stay parameters, here and in `side_stands`: a struct would make each clause longer, since the definitions take
+// them one by one.
+#[tactic(auto, unfolding(book::specs::Verdicts::trade_verdict))]
 pub fn trade_stands(
     place: usize,
     day: u32,
@@ -41,12 +45,7 @@ pub fn trade_stands(
 ) -> Result<(usize, (usize, usize, usize, usize)), Refusal>
     ensures { Judges (trade_verdict place day minute trades.now intermediations.now number) (Stands trades.now intermediations.now number) result }
 {
-    let Some(at) = find(trades, number as u64) else {
-        return Err(Refusal {
-            ground: Ground::NoTrade,
-            place,
-        });
-    };
+    let at = find(trades, number as u64).ok_or(Ground::NoTrade.at(place))?;
     test(!trades[at].is_cancelled(), Ground::TradeCancelled, place)?;
     let chain = follow(trades, intermediations, None, at, place)?;
     test(

@@ -1,3 +1,4 @@
-pub mod Lines
+pub mod Filled
+pub mod Parted
 pub mod Scan
 pub mod Taken

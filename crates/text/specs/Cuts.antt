@@ -1,5 +1,5 @@
 -- Where a reader stands in a line: on the comma before a field, or at the end.
-use Rattle.std.specs.Prelude.{ℕ, cond, List, [], ◌∷◌, Ok, Err, Result, ◌==◌}
+use Rattle.std.specs.Prelude.{◌≡◌, ℕ, cond, List, [], ◌∷◌, Some, None, Ok, Err, Option, Result, MatchOption, ◌==◌}
 use Rattle.std.specs.Borrow.{Bor}
 use Rattle.fields.specs.declared.answer.Refusal.{Refusal}
 use Rattle.text.specs.Fields.{fields}
@@ -19,6 +19,10 @@ front = before 44
 
 abbrev pub after : List ℕ → List ℕ
 after = onward 44
+
+-- a reader of the field that a text begins with gave its value and what follows it, or nothing
+abbrev pub Takes : {A : Type 0} → (List ℕ → Option A) → List ℕ → Option (A × Bor (List ℕ)) → Type 0
+Takes read text r = MatchOption r (read (front text) ≡ None) (λ p. (read (front text) ≡ Some p.0) × (p.1.now ≡ after text))
 
 -- the fields that are left
 abbrev pub left : List ℕ → List (List ℕ)

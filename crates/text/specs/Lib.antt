@@ -1,3 +1,5 @@
 pub mod Fields
 pub mod Cuts
 pub mod Reading
+pub mod Words
+pub mod Groups

@@ -1,21 +1,18 @@
-ghost use Rattle.std.specs.Prelude.{◌≡◌, ◌<◌, [], ◌∷◌, length, Some, None, MatchOption};
+ghost use Rattle.std.specs.Prelude.{◌≡◌, ◌<◌, [], ◌∷◌, length, MatchOption};
 ghost use Rattle.text.specs.Fields.{lines, single};
-ghost use Rattle.text.specs.Cuts.{before, onward, front, after};
+ghost use Rattle.text.specs.Cuts.{before, onward, Takes};
 
 // The bytes before the first `mark`, and those from it on.
-pub fn cut<'a>(text: &'a [u8], mark: u8) -> (&'a [u8], &'a [u8])
+pub fn cut(text: &[u8], mark: u8) -> (&[u8], &[u8])
     ensures { (result.0.now ≡ before mark text.now) × (result.1.now ≡ onward mark text.now) }
 {
-    for (i, b) in text.iter().enumerate() {
-        if *b == mark {
-            return text.split_at(i);
-        }
-    }
-    text.split_at(text.len())
+    let place = text.iter().position(|b| *b == mark).unwrap_or(text.len());
+    text.split_at(place)
 }
 
 // The first line, without the byte 10 that ends it, and the text behind that.
-pub fn next_line<'a>(text: &'a [u8]) -> Option<(&'a [u8], &'a [u8])>
+#[tactic(auto, using(crate::proofs::Parted::line_is, crate::proofs::Parted::onward_length))]
+pub fn next_line(text: &[u8]) -> Option<(&[u8], &[u8])>
     ensures { MatchOption result (text.now ≡ [])
         (λ p. (lines text.now ≡ p.0.now ∷ lines p.1.now) × (length p.1.now < length text.now)) }
 {
@@ -30,9 +27,8 @@ pub fn next_line<'a>(text: &'a [u8]) -> Option<(&'a [u8], &'a [u8])>
 }
 
 // The one byte that stands before the comma or the end, and what follows it.
-pub fn split_letter<'a>(text: &'a [u8]) -> Option<(u8, &'a [u8])>
-    ensures { MatchOption result (single (front text.now) ≡ None)
-        (λ p. (single (front text.now) ≡ Some p.0) × (p.1.now ≡ after text.now)) }
+pub fn split_letter(text: &[u8]) -> Option<(u8, &[u8])>
+    ensures { Takes single text.now result }
 {
     let [letter, rest @ ..] = text else {
         return None;

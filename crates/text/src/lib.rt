@@ -2,8 +2,14 @@
 #![tactic(auto)]
 
 pub mod cuts;
+pub mod groups;
+pub mod lines;
 pub mod next;
 pub mod number;
+pub mod words;
 
 pub use cuts::{cut, next_line, split_letter};
-pub use next::{read_end, read_letter, read_number, read_only, read_u32};
+pub use groups::{Group, read_into};
+pub use lines::Lines;
+pub use next::{read_end, read_first, read_number, read_only, read_u32};
+pub use words::{FromField, read_as};

@@ -1,59 +1,49 @@
+// Fields that are numbers, and the end of a line. `small` says again what `reads` implies of a number, in the form that a cast or an index
+// wants; a name for it would be no shorter.
 ghost use Rattle.std.specs.Prelude.{◌≡◌, ◌≤◌, IfOk};
-ghost use Rattle.text.specs.Fields.{fields, narrow, number as number_in, single};
+ghost use Rattle.text.specs.Fields.{fields, narrow, number as number_in};
 ghost use Rattle.text.specs.Cuts.{left, seen};
 ghost use Rattle.text.specs.Reading.{field, end, only};
 
-use crate::cuts::split_letter;
 use crate::number::numeral;
 use fields::{Ground, Range, Refusal};
 
 // The number in the next field, which is the field at `place`, and where the reader then stands.
-pub fn read_number<'a>(
-    rest: &'a [u8],
-    place: usize,
-    range: Range,
-) -> Result<(u64, &'a [u8]), Refusal>
+#[tactic(auto, using(crate::proofs::Taken::behind_comma))]
+pub fn read_number(rest: &[u8], place: usize, range: Range) -> Result<(u64, &[u8]), Refusal>
     ensures reads { field (number_in range) place (left rest.now) ≡ seen result }
     ensures small { IfOk result (λ p. p.0 ≤ range.most) }
 {
     let [b',', text @ ..] = rest else {
-        return Err(Refusal {
-            ground: Ground::FieldCount,
-            place,
-        });
+        return Err(Ground::FieldCount.at(place));
     };
     let Some((value, rest)) = numeral(text, range) else {
-        return Err(Refusal {
-            ground: Ground::BadField,
-            place,
-        });
+        return Err(Ground::BadField.at(place));
     };
     Ok((value, rest))
 }
 
 // The same, where 32 bits are enough for the range; greater numbers do not read.
-pub fn read_u32<'a>(rest: &'a [u8], place: usize, range: Range) -> Result<(u32, &'a [u8]), Refusal>
+pub fn read_u32(rest: &[u8], place: usize, range: Range) -> Result<(u32, &[u8]), Refusal>
     ensures reads { field (number_in (narrow range)) place (left rest.now) ≡ seen result }
     ensures small { IfOk result (λ p. p.0 ≤ range.most) }
 {
     let narrow = Range {
-        least: range.least,
         most: range.most.min(u32::MAX as u64),
+        ..range
     };
     let (value, rest) = read_number(rest, place, narrow)?;
     Ok((value as u32, rest))
 }
 
 // The number in the first field of a line; a fault has the place that is given.
-fn read_first<'a>(line: &'a [u8], place: usize, range: Range) -> Result<(u64, &'a [u8]), Refusal>
+#[tactic(auto, using(crate::proofs::Taken::fields_is))]
+pub fn read_first(line: &[u8], place: usize, range: Range) -> Result<(u64, &[u8]), Refusal>
     ensures reads { field (number_in range) place (fields line.now) ≡ seen result }
     ensures small { IfOk result (λ p. p.0 ≤ range.most) }
 {
     let Some((number, rest)) = numeral(line, range) else {
-        return Err(Refusal {
-            ground: Ground::BadField,
-            place,
-        });
+        return Err(Ground::BadField.at(place));
     };
     Ok((number, rest))
 }
@@ -68,34 +58,13 @@ pub fn read_only(line: &[u8], place: usize, range: Range) -> Result<u64, Refusal
     Ok(value)
 }
 
-// The one letter in the next field.
-pub fn read_letter<'a>(rest: &'a [u8], place: usize) -> Result<(u8, &'a [u8]), Refusal>
-    ensures { field single place (left rest.now) ≡ seen result }
-{
-    let [b',', text @ ..] = rest else {
-        return Err(Refusal {
-            ground: Ground::FieldCount,
-            place,
-        });
-    };
-    let Some((letter, rest)) = split_letter(text) else {
-        return Err(Refusal {
-            ground: Ground::BadField,
-            place,
-        });
-    };
-    Ok((letter, rest))
-}
-
 // No field may follow: one at `place` is too many.
+#[tactic(auto, using(crate::proofs::Taken::behind_comma))]
 pub fn read_end(rest: &[u8], place: usize) -> Result<(), Refusal>
     ensures { result ≡ end place (left rest.now) }
 {
     let [b',', ..] = rest else {
         return Ok(());
     };
-    Err(Refusal {
-        ground: Ground::FieldCount,
-        place,
-    })
+    Err(Ground::FieldCount.at(place))
 }

@@ -1,8 +1,9 @@
 -- Fields with a comma before each, one more at a time.
-use Rattle.std.proofs.Common.{◌≡◌, ℕ, ◌+◌, ◌-◌, ◌<◌, ◌≤◌, true, false, leb, List, [], ◌∷◌, ◌++◌, length, get_or, take, drop, set, sym, refl, ap, ◌∙◌, append_assoc, append-nil, arith, length-append, take-append-drop}
+use Rattle.std.proofs.Common.{◌≡◌, ℕ, ◌+◌, ◌-◌, ◌*◌, ◌<◌, ◌≤◌, true, leb, List, [], ◌∷◌, ◌++◌, length, get_or, take, drop, set, Result, sym, refl, ap, ◌∙◌, append_assoc, append-nil, arith, length-append, take-append-drop}
 use Rattle.std.proofs.lemmas.List.{take_more, drop_more}
 use Rattle.std.proofs.lemmas.Bool.Decides.{nat_tests}
-use Rattle.writing.specs.Written.{bytes_of, commaed, line_of, over}
+use Rattle.fields.specs.declared.answer.Refusal.{Refusal}
+use Rattle.writing.specs.Written.{bytes_of, commaed, line_of, over, sent, with_line, Writes}
 use Rattle.writing.proofs.Over.{set_over, over_over}
 use Rattle.writing.specs.declared.piece.Piece.{Piece}
 use Rattle.writing.specs.declared.piece.Piece.TheVariants.{Letter}
@@ -31,17 +32,6 @@ module _ (ps : List Piece) (i : ℕ) (within : i < length ps) where
       let f = ap (λ l. length (commaed l)) (drop_more ps i (Letter 0) within) ∙ length_commaed this (drop (i + 1) ps) in
       omega arith
 
-  -- the room that is left decides
-  pub room_more : (room : ℕ) → length (bytes_of this) < room → leb (length (commaed (drop i ps))) room ≡ leb (length (commaed (drop (i + 1) ps))) (room - (length (bytes_of this) + 1))
-  room_more room h =
-      let f = length_commaed this (drop (i + 1) ps) in
-      ap (λ l. leb (length (commaed l)) room) (drop_more ps i (Letter 0) within) ∙ grind (arith, nat_tests)
-
-  pub room_none : (room : ℕ) → room ≤ length (bytes_of this) → leb (length (commaed (drop i ps))) room ≡ false
-  room_none room h =
-      let f = length_commaed this (drop (i + 1) ps) in
-      ap (λ l. leb (length (commaed l)) room) (drop_more ps i (Letter 0) within) ∙ grind (arith, nat_tests)
-
   -- a comma and one more field behind those that stand
   pub over_more : (xs : List ℕ) (start at : ℕ) → at ≡ start + length (commaed (take i ps)) →
       over (set (over xs start (commaed (take i ps))) at 44) (at + 1) (bytes_of this) ≡ over xs start (commaed (take (i + 1) ps))
@@ -53,19 +43,16 @@ module _ (ps : List Piece) (i : ℕ) (within : i < length ps) where
       ap (λ l. over l (at + 1) (bytes_of this)) (a ∙ b) ∙ over_over xs start (at + 1) (commaed (take i ps) ++ (44 ∷ [])) (bytes_of this) m
       ∙ ap (over xs start) (append_assoc (commaed (take i ps)) (44 ∷ []) (bytes_of this) ∙ sym commaed_more)
 
-pub room_enough : (room : ℕ) → leb (length (commaed [])) room ≡ true
-room_enough room = grind (arith, nat_tests)
-
 -- a line in its buffer
 module _ (letter : ℕ) (ps : List Piece) (out : List ℕ) where
   pub line_fits : 0 < length out → leb (length (commaed ps)) (length out - 1) ≡ true → leb (length (line_of letter ps)) (length out) ≡ true
   line_fits some h = grind (arith, nat_tests)
 
-  pub line_short : length out ≡ 0 → leb (length (line_of letter ps)) (length out) ≡ false
-  line_short e = grind (arith, nat_tests)
-
-  pub fields_short : leb (length (commaed ps)) (length out - 1) ≡ false → leb (length (line_of letter ps)) (length out) ≡ false
-  fields_short h = grind (arith, nat_tests)
-
   pub line_over : over (set out 0 letter) 1 (commaed ps) ≡ over out 0 (line_of letter ps)
   line_over = ap (λ l. over l 1 (commaed ps)) (set_over out 0 letter) ∙ over_over out 0 1 (letter ∷ []) (commaed ps) refl
+
+-- a line of at most 54 fields has room in 1,135 bytes
+pub line_sent : (letter : ℕ) (ps qs : List Piece) (old new : List ℕ) (r : Result ℕ Refusal) → ps ≡ qs → length qs ≤ 54 → Writes (line_of letter ps) (1 + 21 * length ps) old new r → Writes (line_of letter qs) 1135 old new r
+line_sent letter ps qs old new r e h w =
+    let l = ap length e in
+    record { value = w.value ∙ ap (λ xs. sent (line_of letter xs) old) e; after = w.after ∙ ap (λ xs. with_line (line_of letter xs) old) e; enough = λ m. w.enough (omega arith) }

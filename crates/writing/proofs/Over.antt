@@ -1,5 +1,6 @@
 -- Writing one part behind another.
-use Rattle.std.proofs.Common.{◌≡◌, ℕ, zero, suc, ◌+◌, ◌≤◌, Bool, true, false, cond, leb, List, [], ◌∷◌, ◌++◌, length, take, set, Ok, Err, Result, sym, refl, ap, ◌∙◌, arith}
+use Rattle.std.proofs.Common.{◌≡◌, ℕ, zero, suc, ◌+◌, ◌≤◌, Bool, true, false, cond, leb, List, [], ◌∷◌, ◌++◌, length, take, drop, set, Ok, Err, Result, sym, refl, ap, ◌∙◌, arith}
+use borrow.Rule.Slice.PartMut.{put_mid}
 use Rattle.fields.specs.declared.answer.Refusal.{Refusal}
 use Rattle.std.proofs.lemmas.Bool.{leb-true}
 use Rattle.fields.specs.declared.ground.Ground.TheVariants.{BufferShort}
@@ -29,6 +30,18 @@ length_over [] at bs = refl
 length_over (x ∷ xs) zero [] = refl
 length_over (x ∷ xs) zero (b ∷ bs) = ap suc (length_over xs zero bs)
 length_over (x ∷ xs) (suc at) bs = ap suc (length_over xs at bs)
+
+-- bytes that fit, copied in
+pub put_front : (xs bs : List ℕ) → length bs ≤ length xs → bs ++ drop (length bs) xs ≡ over xs 0 bs
+put_front [] [] h = refl
+put_front [] (b ∷ bs) h = absurd (omega arith)
+put_front (x ∷ xs) [] h = refl
+put_front (x ∷ xs) (b ∷ bs) h = ap (λ l. b ∷ l) (put_front xs bs (omega arith))
+
+pub put_over : (xs : List ℕ) (at : ℕ) (bs : List ℕ) → at + length bs ≤ length xs → put_mid at (length bs) xs bs ≡ over xs at bs
+put_over xs zero bs h = put_front xs bs (omega arith)
+put_over [] (suc at) bs h = absurd (omega arith)
+put_over (x ∷ xs) (suc at) bs h = ap (λ l. x ∷ l) (put_over xs at bs (omega arith))
 
 -- bytes that fit can be taken out again
 pub take_over : (xs bs : List ℕ) → length bs ≤ length xs → take (length bs) (over xs 0 bs) ≡ bs

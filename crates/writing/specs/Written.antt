@@ -1,5 +1,5 @@
 -- The bytes of a line, and a buffer with a line in it.
-use Rattle.std.specs.Prelude.{ℕ, zero, suc, cond, List, [], ◌∷◌, ◌++◌, length, Ok, Err, decimal, Result, nat_le}
+use Rattle.std.specs.Prelude.{◌≡◌, ◌≤◌, ℕ, zero, suc, true, cond, List, [], ◌∷◌, ◌++◌, length, Ok, Err, decimal, Result, is_ok, nat_le}
 use Rattle.fields.specs.Refusals.{refused}
 use Rattle.fields.specs.Grounds.{number_of}
 use Rattle.fields.specs.declared.answer.Answer.{Answer}
@@ -48,3 +48,9 @@ sent line out = cond (nat_le (length line) (length out)) (Ok (length line)) (Err
 -- the buffer then: the line and the bytes behind it, or as it was
 abbrev pub with_line : List ℕ → List ℕ → List ℕ
 with_line line out = cond (nat_le (length line) (length out)) (over out 0 line) out
+
+-- what writing a line gives: its answer, and the buffer then; a buffer of `room` bytes is enough
+pub record Writes (line : List ℕ) (room : ℕ) (old new : List ℕ) (result : Result ℕ Refusal) : Type 0 where
+  pub value : result ≡ sent line old
+  pub after : new ≡ with_line line old
+  pub enough : room ≤ length old → is_ok result ≡ true

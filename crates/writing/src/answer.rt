@@ -1,15 +1,13 @@
-ghost use Rattle.std.specs.Prelude.{◌≡◌, ◌≤◌, true, length, is_ok};
-ghost use Rattle.writing.specs.Written.{answer_line, sent, with_line};
+ghost use Rattle.std.specs.Prelude.{◌≡◌};
+ghost use Rattle.writing.specs.Written.{answer_line, Writes};
 
 use crate::line::write_line;
 use crate::piece::Piece;
 use fields::{Answer, Refusal};
 
-// `A,n,first`, `T` or `R,number,place`; 43 bytes are enough.
+// `A,n,first`, `T` or `R,number,place`; 43 bytes are enough. A `usize` becomes a `u64` by `as`, since there is no `From`.
 pub fn write_answer(out: &mut [u8], answer: Result<Answer, Refusal>) -> Result<usize, Refusal>
-    ensures value { result ≡ sent (answer_line answer) out.old }
-    ensures after { out.new ≡ with_line (answer_line answer) out.old }
-    ensures enough { 43 ≤ length out.old → is_ok result ≡ true }
+    ensures { Writes (answer_line answer) 43 out.old out.new result }
 {
     match answer {
         Ok(Answer::Written { pairs, first }) => {
@@ -26,7 +24,7 @@ pub fn write_answer(out: &mut [u8], answer: Result<Answer, Refusal>) -> Result<u
                 out,
                 b'R',
                 &[
-                    Piece::Number(number as u64),
+                    Piece::Number(u64::from(number)),
                     Piece::Number(refusal.place as u64),
                 ],
             )

@@ -1,19 +1,17 @@
-use Rattle.std.proofs.Common.{sym, ◌∙◌}
-use Rattle.account_text.proofs.Found.{some_means, none_means, hit, miss, ended}
+use Rattle.std.proofs.Common.{eqb, rules}
+use Rattle.std.proofs.lemmas.Iterator.Consumers.{YieldsList-from_first, YieldsList-from_filter_map, YieldsList-at}
+use Rattle.std.proofs.lemmas.Iterator.Search.{find_from_yields_List}
+use borrow.Author.Tests.{tests}
+use Rattle.text.specs.Fields.{lines}
+use Rattle.accounts.specs.Rows.{row_code}
+use Rattle.account_text.proofs.Found.{good_of, row_found}
 use Rattle.account_text.proofs.row_of.Goals as goal
-
-pub returns-then-row-code : goal.returns-then-row-code
-returns-then-row-code c =
-    let first = c.in-Some.ensures in
-    let row = sym (c.loop-line.invariant ∙ hit c.args.code c.loop-line.rest.now c.in-Some.line.now c.in-Some.behind.now first.0 c.in-Ok.row c.in-Ok.ensures c.if-row-code.true) in
-    record { row = row; meant = some_means c.args.code c.args.bytes.now c.in-Ok.row row }
-
-pub loop-line-preserved-else-row-code : goal.loop-line-preserved-else-row-code
-loop-line-preserved-else-row-code c =
-    let first = c.in-Some.ensures in
-    c.loop-line.invariant ∙ miss c.args.code c.loop-line.rest.now c.in-Some.line.now c.in-Some.behind.now first.0 c.in-Ok.row c.in-Ok.ensures c.if-row-code.false
 
 pub returns : goal.returns
 returns c =
-    let row = sym (c.loop-line.invariant ∙ ended c.args.code c.loop-line.rest.now c.in_default.ensures) in
-    record { row = row; meant = none_means c.args.code c.args.bytes.now row }
+    let code = c.args.code in
+    let bytes = c.args.bytes.now in
+    row_found code bytes c.find.result
+    (find_from_yields_List (λ r. eqb (row_code r) code) _ _ _ c.find.ensures.ran
+    (YieldsList-from_filter_map _ good_of (YieldsList-at c.filter_map.ensures.source (YieldsList-from_first (λ x. x.now) (λ s. s) (lines bytes) c.new.ensures.value)) c.filter_map.ensures.closure (λ x r q k. search (rules, tests)))
+    (λ x b q k. search (rules, tests)))

@@ -1,19 +1,15 @@
-use Rattle.std.proofs.Common.{sym, ◌∙◌, arith}
-use Rattle.keyed.proofs.Steps.{found_at, place_hit, place_miss, place_end}
+use Rattle.std.proofs.Common.{◌≡◌, eqb, ◌∙◌, rules, tests}
+use Rattle.std.proofs.lemmas.Iterator.{YieldsList-from_slice}
+use Rattle.std.proofs.lemmas.Iterator.Adapters.{position_from-zero}
+use Rattle.std.proofs.lemmas.Iterator.Search.{position_from_yields_List}
+use Rattle.keyed.specs.Places.{place_from}
+use Rattle.keyed.proofs.Steps.{found_at}
 use Rattle.keyed.proofs.scan.find.Goals as goal
-
-pub returns-then-key_number-wanted : goal.returns-then-key_number-wanted
-returns-then-key_number-wanted g c =
-    let key = g.R.Keyed.key in
-    let is = sym (place_hit key c.args.wanted c.args.rows.now c.loop-i.i _ c.loop-i-test.true c.index-rows-i.is (omega arith)) ∙ c.loop-i.invariant in
-    record { place = is; found = found_at key c.args.wanted c.args.rows.now _ is }
-
-pub loop-i-preserved : goal.loop-i-preserved
-loop-i-preserved g c =
-    sym (place_miss g.R.Keyed.key c.args.wanted c.args.rows.now c.loop-i.i _ c.loop-i-test.true c.index-rows-i.is (λ e. omega arith)) ∙ c.loop-i.invariant
 
 pub returns : goal.returns
 returns g c =
-    let key = g.R.Keyed.key in
-    let is = sym (place_end key c.args.wanted c.args.rows.now c.loop-i.i c.loop-i-test.false) ∙ c.loop-i.invariant in
-    record { place = is; found = found_at key c.args.wanted c.args.rows.now _ is }
+    let xs = c.args.rows.now in
+    let here = λ (x : g.row.R.Denot). eqb (g.R.Keyed.key x) c.args.wanted in
+    let is : c.position.result ≡ place_from g.R.Keyed.key c.args.wanted 0 xs =
+    position_from_yields_List here _ _ c.position.result c.position.ensures.ran (YieldsList-from_slice xs cc) (λ x b q k. search (rules, tests)) ∙ position_from-zero here xs in
+    record { place = is; found = found_at g.R.Keyed.key c.args.wanted xs _ is }

@@ -1,16 +1,14 @@
-use Rattle.std.proofs.Common.{◌∙◌, arith}
-use Rattle.text.proofs.Scan.{passed_more, passed_mark, all_passed}
+use Rattle.std.proofs.Common.{length, ap, ◌∙◌, eqb, rules}
+use Rattle.std.proofs.lemmas.Iterator.{YieldsList-from_slice}
+use Rattle.std.proofs.lemmas.Iterator.Search.{position_from_yields_List}
+use Rattle.std.specs.Option.{unwrap_or}
+use borrow.Author.Tests.{tests}
+use Rattle.text.proofs.Scan.{cut_at}
 use Rattle.text.proofs.cuts.cut.Goals as goal
-
-pub returns-then-b-mark : goal.returns-then-b-mark
-returns-then-b-mark c =
-    let p = passed_mark c.args.mark c.args.text.now c.loop-i.i (omega arith) c.if-b-mark.true c.loop-i.invariant in
-    (c.split_at.ensures.front ∙ p.0, c.split_at.ensures.back ∙ p.1)
-
-pub loop-i-preserved : goal.loop-i-preserved
-loop-i-preserved c = passed_more c.args.mark c.args.text.now c.loop-i.i (omega arith) c.if-b-mark.false c.loop-i.invariant
 
 pub returns : goal.returns
 returns c =
-    let p = all_passed c.args.mark c.args.text.now c.loop-i.i (omega arith) c.loop-i.invariant in
-    (c.split_at-2.ensures.front ∙ p.0, c.split_at-2.ensures.back ∙ p.1)
+    let text = c.args.text.now in
+    let p = position_from_yields_List (λ b. eqb b c.args.mark) _ _ c.position.result c.position.ensures.ran (YieldsList-from_slice text cc) (λ x b q k. search (rules, tests)) in
+    let e = cut_at c.args.mark text _ (c.unwrap_or-place.ensures ∙ ap (λ o. unwrap_or o (length text)) p) in
+    (c.split_at.ensures.front ∙ e.0, c.split_at.ensures.back ∙ e.1)

@@ -1,6 +1,5 @@
-use Rattle.std.proofs.Common.{◌+◌, length, set, sym, ap, ◌∙◌, arith, length-set}
-use Rattle.std.proofs.lemmas.List.{take_all}
-use Rattle.writing.specs.Written.{commaed, over, bytes_of}
+use Rattle.std.proofs.Common.{◌+◌, set, sym, ap, ◌∙◌, arith, length-set}
+use Rattle.writing.specs.Written.{over, bytes_of}
 use Rattle.writing.proofs.Commas.{fits_more, length_more, over_more, this}
 use Rattle.writing.proofs.Over.{over_none}
 use Rattle.writing.proofs.line.write_fields.Goals as goal
@@ -30,11 +29,3 @@ loop-piece-preserved c =
       w.after ∙ ap (λ l. over (set l c.loop-piece.at 44) (c.loop-piece.at + 1) (bytes_of (this ps i h))) c.loop-piece.invariant.1
           ∙ over_more ps i h c.args.out.now c.args.start c.loop-piece.at c.loop-piece.invariant.0,
     )
-
-pub returns : goal.returns
-returns c =
-    let e = take_all c.loop-piece.piece-index c.args.pieces.now (omega arith) in
-    record {
-      value = c.loop-piece.invariant.0 ∙ ap (λ l. c.args.start + length (commaed l)) e;
-      after = c.loop-piece.invariant.1 ∙ ap (λ l. over c.args.out.now c.args.start (commaed l)) e;
-    }

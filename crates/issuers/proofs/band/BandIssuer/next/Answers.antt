@@ -1,9 +1,11 @@
-use Rattle.std.proofs.Common.{sym, ap}
-use Rattle.issuers.specs.Numbers.{first_of, rest_of}
-use Rattle.issuers.proofs.Steps.{band_step}
+use Rattle.std.proofs.Common.{◌≡◌, suc, ◌+◌, ◌-◌, sym, ap, arith}
+use Rattle.std.specs.List.{range_with_len}
+use Rattle.issuers.specs.Numbers.{rest_of}
 use Rattle.issuers.proofs.band.BandIssuer.next.Goals as goal
 
-pub returns : goal.returns
-returns c =
-    let step = band_step c.args.self.now.first c.args.self.now.last c.if-self.false in
-    record { given = sym (ap first_of step); rest = sym (ap rest_of step) }
+-- one number more stands in the band than in what is left of it
+pub returns-clause-rest : goal.returns-clause-rest
+returns-clause-rest c =
+    let s = c.args.self.now in
+    let more : s.last + 1 - s.first ≡ suc (s.last + 1 - (s.first + 1)) = omega arith in
+    sym (ap (λ n. rest_of (range_with_len s.first n)) more)
