@@ -1,6 +1,7 @@
 pub mod Matches
 pub mod Numbering
 pub mod Puts
+pub mod Shapes
 pub mod Ties
 pub mod Unmoved
 pub mod Walk

@@ -64,24 +64,23 @@ impl Line for Request {
     }
 }
 
-// Appends what is written as a line.
-fn push<L: Line>(out: &mut Vec<u8>, written: &L) -> Result<(), AllocError>
+// Appends what is written as a line, by way of a buffer: one for all replies, since to blank it costs as much as a short line.
+fn push<L: Line>(out: &mut Vec<u8>, buffer: &mut [u8; ROOM], written: &L) -> Result<(), AllocError>
     ensures { OnOk result (out.new.items ≡ out.old.items ++ ended (L.line written.now)) }
 {
-    let mut buffer = [0; ROOM];
-    let Ok(n) = written.write(&mut buffer) else {
+    let Ok(n) = written.write(buffer) else {
         return unreachable();
     };
     push_line(out, &buffer[0..n])
 }
 
 // Appends the reply to one line.
-fn push_reply(out: &mut Vec<u8>, line: &[u8]) -> Result<(), AllocError>
+fn push_reply(out: &mut Vec<u8>, buffer: &mut [u8; ROOM], line: &[u8]) -> Result<(), AllocError>
     ensures { OnOk result (out.new.items ≡ out.old.items ++ ended (reply line.now)) }
 {
     match read_request(line) {
-        Ok(request) => push(out, &request),
-        Err(refusal) => push(out, &Err(refusal)),
+        Ok(request) => push(out, buffer, &request),
+        Err(refusal) => push(out, buffer, &Err(refusal)),
     }
 }
 
@@ -89,8 +88,9 @@ fn push_reply(out: &mut Vec<u8>, line: &[u8]) -> Result<(), AllocError>
 fn push_replies(out: &mut Vec<u8>, text: &[u8]) -> Result<(), AllocError>
     ensures { OnOk result (out.new.items ≡ out.old.items ++ replies (lines text.now)) }
 {
+    let mut buffer = [0; ROOM];
     for line in Lines::new(text) {
-        push_reply(out, line)?;
+        push_reply(out, &mut buffer, line)?;
     }
     Ok(())
 }
@@ -128,7 +128,7 @@ pub fn run(heap: Global, files: &Files) -> Result<Vec<u8>, AllocError>
     let mut out = Vec::new(heap);
     match begin(heap, files, first) {
         Ok(_) => push_replies(&mut out, rest)?,
-        Err(Stop::Refused(refusal)) => push(&mut out, &Err(refusal))?,
+        Err(Stop::Refused(refusal)) => push(&mut out, &mut [0; ROOM], &Err(refusal))?,
         Err(Stop::OutOfMemory(e)) => return Err(e),
     }
     Ok(out)

@@ -10,7 +10,7 @@ use text::{Lines, read_only};
 
 // Holds the code on a line.
 fn hold_line<R>(register: &mut Hold<R>, line: &[u8], place: usize) -> Result<(), Refusal>
-    ensures codes { left_with result register.new.view ≡ hold_line place register.old.view line.now }
+    ensures codes { left_with result register.new.view.codes.items ≡ hold_line place register.old.view.codes.items line.now }
     ensures below { register.new.below ≡ register.old.below }
 {
     let code = read_only(line, place, ACCOUNT)?;
@@ -21,7 +21,7 @@ fn hold_line<R>(register: &mut Hold<R>, line: &[u8], place: usize) -> Result<(),
 
 // Holds the code on each line of a text, or tells the first fault and its line, from 1.
 pub fn read_holds<R>(register: &mut Hold<R>, text: &[u8]) -> Result<(), Refusal>
-    ensures codes { left_with result register.new.view ≡ hold_lines 1 register.old.view (lines text.now) }
+    ensures codes { left_with result register.new.view.codes.items ≡ hold_lines 1 register.old.view.codes.items (lines text.now) }
     ensures below { register.new.below ≡ register.old.below }
 {
     for (i, line) in Lines::new(text).enumerate() {

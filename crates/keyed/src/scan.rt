@@ -8,7 +8,7 @@ ghost use Rattle.keyed.specs.Rows.{rises_above};
 use crate::row::{Checked, Keyed};
 use fields::{Ground, Refusal};
 
-// The place of the row with this key, or nothing. Every row is looked at, since tables that a caller lends need not rise.
+// The place of the row with this key, or nothing. The rows are looked at from the front, since tables that a caller lends need not rise.
 pub fn find<R: Keyed>(rows: &[R], wanted: u64) -> Option<usize>
     ensures place { result ≡ place_from R.key wanted 0 rows.now }
     ensures found { Found R.key wanted rows.now result }

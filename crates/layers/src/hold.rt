@@ -8,7 +8,6 @@ use crate::layer::{Layer, View};
 use arrayvec::ArrayVec;
 use fields::range::ACCOUNT;
 use fields::{Account, Ground, Refusal, Status};
-use std::marker::Model;
 
 pub const MOST_HOLDS: usize = 64;
 
@@ -19,20 +18,14 @@ pub type Hold<R> = Layer<R, Held>;
 #[derive(Drop)]
 pub struct Held {
     codes: ArrayVec<u32, MOST_HOLDS>,
-}
-
-impl Model for Held {
-    ghost Value = { List ℕ };
-
-    ghost view = { λ h. h.codes.items };
-
-    ghost invariant = { λ h. rising h.codes.items ≡ true };
+    ghost few: { length codes.items ≤ 64 },
+    ghost rise: { rising codes.items ≡ true },
 }
 
 impl<R> Hold<R> {
     // A layer that holds nothing yet.
     pub fn new(below: R) -> Self
-        ensures { (result.below ≡ below) × (result.view ≡ []) }
+        ensures { (result.below ≡ below) × (result.view.codes.items ≡ []) }
     {
         Layer {
             below,
@@ -42,24 +35,25 @@ impl<R> Hold<R> {
 
     // Whether a code is held.
     pub fn holds(&self, code: u32) -> bool
-        ensures { result ≡ is_held code self.now.view }
+        ensures { result ≡ is_held code self.now.view.codes.items }
     {
         self.view.has(code)
     }
 
     // The codes that are held, in rising order.
     pub fn codes(&self) -> &[u32]
-        ensures value { result.now ≡ self.now.view }
-        ensures few { length self.now.view ≤ 64 }
-        ensures rise { rising self.now.view ≡ true }
+        ensures value { result.now ≡ self.now.view.codes.items }
+        ensures few { length self.now.view.codes.items ≤ 64 }
+        ensures rise { rising self.now.view.codes.items ≡ true }
     {
         self.view.as_slice()
     }
 
     // Holds a code; one that is held already is held once.
     pub fn hold(&mut self, code: u32) -> Result<(), Refusal>
-        ensures answer { result ≡ hold_answer code self.old.view }
-        ensures after { self.new ≡ record self.old { view = hold_codes code self.old.view } }
+        ensures answer { result ≡ hold_answer code self.old.view.codes.items }
+        ensures codes { self.new.view.codes.items ≡ hold_codes code self.old.view.codes.items }
+        ensures below { self.new.below ≡ self.old.below }
     {
         self.view.enter(code)
     }
@@ -67,7 +61,8 @@ impl<R> Hold<R> {
     // Releases a code; one that is not held is released too.
     pub fn release(&mut self, code: u32) -> Result<(), Refusal>
         ensures answer { result ≡ release_answer code }
-        ensures after { self.new ≡ record self.old { view = release_codes code self.old.view } }
+        ensures codes { self.new.view.codes.items ≡ release_codes code self.old.view.codes.items }
+        ensures below { self.new.below ≡ self.old.below }
     {
         self.view.take_out(code)
     }
@@ -75,7 +70,7 @@ impl<R> Hold<R> {
 
 impl Held {
     fn new() -> Self
-        ensures { result ≡ [] }
+        ensures { result.codes.items ≡ [] }
     {
         Held {
             codes: ArrayVec::new(),
@@ -83,31 +78,31 @@ impl Held {
     }
 
     fn as_slice(&self) -> &[u32]
-        ensures value { result.now ≡ self.now }
-        ensures few { length self.now ≤ 64 }
-        ensures rise { rising self.now ≡ true }
+        ensures value { result.now ≡ self.now.codes.items }
+        ensures few { length self.now.codes.items ≤ 64 }
+        ensures rise { rising self.now.codes.items ≡ true }
     {
         self.codes.as_slice()
     }
 
     // Whether a code is there, or its place.
     fn seek(&self, code: u32) -> Result<usize, usize>
-        ensures place { MatchResult result (λ _. is_held code self.now ≡ true) (λ at. (is_held code self.now ≡ false) × (at ≡ below (λ c. c) code self.now)) }
-        ensures within { IfErr result (λ at. at ≤ length self.now) }
+        ensures place { MatchResult result (λ _. is_held code self.now.codes.items ≡ true) (λ at. (is_held code self.now.codes.items ≡ false) × (at ≡ below (λ c. c) code self.now.codes.items)) }
+        ensures within { IfErr result (λ at. at ≤ length self.now.codes.items) }
     {
         self.codes.as_slice().binary_search(&code)
     }
 
     fn has(&self, code: u32) -> bool
-        ensures { result ≡ is_held code self.now }
+        ensures { result ≡ is_held code self.now.codes.items }
     {
         self.seek(code).is_ok()
     }
 
     #[tactic(auto, using(crate::proofs::Holding::entered_at, crate::proofs::Holding::entered_rise))]
     fn enter(&mut self, code: u32) -> Result<(), Refusal>
-        ensures answer { result ≡ hold_answer code self.old }
-        ensures codes { self.new ≡ hold_codes code self.old }
+        ensures answer { result ≡ hold_answer code self.old.codes.items }
+        ensures codes { self.new.codes.items ≡ hold_codes code self.old.codes.items }
     {
         ACCOUNT.test(code as u64, 1)?;
         let Err(at) = self.seek(code) else {
@@ -123,7 +118,7 @@ impl Held {
     #[tactic(auto, using(crate::proofs::Holding::those_retained, crate::proofs::Holding::retained_rise))]
     fn take_out(&mut self, code: u32) -> Result<(), Refusal>
         ensures answer { result ≡ release_answer code }
-        ensures codes { self.new ≡ release_codes code self.old }
+        ensures codes { self.new.codes.items ≡ release_codes code self.old.codes.items }
     {
         ACCOUNT.test(code as u64, 1)?;
         self.codes.retain(|held| *held != code);
@@ -132,7 +127,7 @@ impl Held {
 }
 
 impl View for Held {
-    ghost shows = { hold_account };
+    ghost shows = { λ h. hold_account h.codes.items };
 
     ghost keeps_code = { λ _ _. refl };
 

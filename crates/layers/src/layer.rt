@@ -4,6 +4,7 @@ ghost use Rattle.fields.specs.declared.account.Account.{Account};
 ghost use Rattle.layers.specs.Layers.{each, apart_each};
 ghost use Rattle.register.specs.Meaning.{Listed, account_in, tied_in, Apart};
 
+use crate::below::{account_below, tied_below};
 use fields::{Account, Party};
 use register::Register;
 
@@ -41,11 +42,11 @@ impl<R: Register, V: View> Register for Layer<R, V> {
     ghost apart = { λ s. apart_each (V.shows s.view) (V.keeps_code s.view) (R.accounts s.below) (R.apart s.below) };
 
     fn account(&self, code: u32) -> Option<Account> {
-        let account = self.below.account(code)?;
+        let account = account_below(&self.below, code)?;
         Some(self.view.show(account))
     }
 
     fn tied(&self, code: u32, party: Party) -> bool {
-        self.below.tied(code, party)
+        tied_below(&self.below, code, party)
     }
 }

@@ -19,7 +19,7 @@ pub fn usable<R: Register>(register: &R, code: u32, party: Party) -> bool
 
 // The same of holds over halts.
 pub fn usable_held_over_halted<R: Register>(holds: &Hold<Halt<R>>, code: u32, party: Party) -> bool
-    ensures { result ≡ usable_by (each (hold_account holds.now.view) (each (halt_account holds.now.below.view.kinds) (R.accounts holds.now.below.below))) code party }
+    ensures { result ≡ usable_by (each (hold_account holds.now.view.codes.items) (each (halt_account holds.now.below.view.kinds) (R.accounts holds.now.below.below))) code party }
 {
     usable(holds, code, party)
 }
@@ -27,8 +27,8 @@ pub fn usable_held_over_halted<R: Register>(holds: &Hold<Halt<R>>, code: u32, pa
 // And of halts over holds, which show what holds over halts show.
 #[tactic(auto, using(crate::proofs::Each::either_order))]
 pub fn usable_halted_over_held<R: Register>(halts: &Halt<Hold<R>>, code: u32, party: Party) -> bool
-    ensures value { result ≡ usable_by (each (halt_account halts.now.view.kinds) (each (hold_account halts.now.below.view) (R.accounts halts.now.below.below))) code party }
-    ensures alike { result ≡ usable_by (each (hold_account halts.now.below.view) (each (halt_account halts.now.view.kinds) (R.accounts halts.now.below.below))) code party }
+    ensures value { result ≡ usable_by (each (halt_account halts.now.view.kinds) (each (hold_account halts.now.below.view.codes.items) (R.accounts halts.now.below.below))) code party }
+    ensures alike { result ≡ usable_by (each (hold_account halts.now.below.view.codes.items) (each (halt_account halts.now.view.kinds) (R.accounts halts.now.below.below))) code party }
 {
     usable(halts, code, party)
 }

@@ -40,10 +40,11 @@ fn push_entry(pieces: &mut Pieces, entry: &Entry)
     pieces.push(Piece::from(entry.client));
 }
 
-fn inclusion(c: &Inclusion) -> Pieces
-    ensures { result.items ≡ inclusion_pieces c.entry.now }
+// Fills in the pieces in their place: to return so many is to copy them.
+fn inclusion(pieces: &mut Pieces, c: &Inclusion)
+    requires { pieces.old.items ≡ [] }
+    ensures { pieces.new.items ≡ inclusion_pieces c.entry.now }
 {
-    let mut pieces = Pieces::new();
     pieces.push(Piece::from(c.minute));
     pieces.push(Piece::from(c.participant));
     pieces.push(Piece::from(c.trade));
@@ -51,9 +52,8 @@ fn inclusion(c: &Inclusion) -> Pieces
     pieces.push(Piece::Number(u64::from(c.now)));
     pieces.push(Piece::Number(c.count as u64));
     for entry in &c.entries[..c.count.min(c.entries.len())] {
-        push_entry(&mut pieces, entry);
+        push_entry(pieces, entry);
     }
-    pieces
 }
 
 fn side_call(c: &SideCall) -> [Piece; 4]
@@ -92,6 +92,16 @@ fn intermediation_call(c: &IntermediationCall) -> [Piece; 3]
     ]
 }
 
+// By itself, since a function blanks the room of all its values as it begins, and only an inclusion has many pieces.
+#[inline(never)]
+fn write_inclusion(out: &mut [u8], c: &Inclusion) -> Result<usize, Refusal>
+    ensures { Writes (request_line (Include c.entry.now)) 1135 out.old out.new result }
+{
+    let mut pieces = Pieces::new();
+    inclusion(&mut pieces, c);
+    write_line(out, b'I', &pieces)
+}
+
 // An inclusion whose fields pass reads back: its table has room for its entries.
 fn inclusion_law(c: &Inclusion)
     ensures { ReadsBack (Include c.entry.now) }
@@ -120,7 +130,7 @@ pub fn write_request(out: &mut [u8], request: &Request) -> Result<usize, Refusal
         Request::Cancel(c) => {
             write_line(out, b'X', &[Piece::from(c.minute), Piece::from(c.trade)])
         }
-        Request::Include(c) => write_line(out, b'I', &inclusion(c)),
+        Request::Include(c) => write_inclusion(out, c),
         Request::Remove(c) => write_line(out, b'D', &side_call(c)),
         Request::Confirm(c) => write_line(out, b'F', &side_call(c)),
         Request::Intermediate(c) => write_line(out, b'J', &new_intermediation(c)),

@@ -1,11 +1,11 @@
 // Fields that are letters.
 ghost use Rattle.std.specs.Prelude.{◌≡◌, ℕ, List, Option};
-ghost use Rattle.text.specs.Cuts.{left, seen};
+ghost use Rattle.text.specs.Cuts.{left, seen, Takes};
 ghost use Rattle.text.specs.Fields.{single};
 ghost use Rattle.text.specs.Reading.{field as fieldIn};
 ghost use Rattle.text.specs.Words.{class, kind, markets, side, status};
 
-use crate::cuts::cut;
+use crate::cuts::{cut, split_letter};
 use fields::{AccountType, Ground, Kind, Markets, Refusal, Side, Status};
 
 // A value that a whole field writes. The answer is an equation, which a reader of any such value needs; `TryFrom` has a relation.
@@ -14,6 +14,15 @@ pub trait FromField: Sized {
 
     fn from_field(field: &[u8]) -> Option<Self>
         ensures { result ≡ read field.now };
+
+    // The value of the field that a text begins with, and what follows it. A value that one letter writes looks at no more than two bytes,
+    // so that a long field is refused at once.
+    fn take(text: &[u8]) -> Option<(Self, &[u8])>
+        ensures { Takes read text.now result }
+    {
+        let (field, rest) = cut(text, b',');
+        Some((Self::from_field(field)?, rest))
+    }
 }
 
 impl FromField for u8 {
@@ -25,6 +34,10 @@ impl FromField for u8 {
             [letter] => Some(*letter),
             _ => None,
         }
+    }
+
+    fn take(text: &[u8]) -> Option<(Self, &[u8])> {
+        split_letter(text)
     }
 }
 
@@ -40,6 +53,11 @@ impl FromField for Kind {
             _ => None,
         }
     }
+
+    fn take(text: &[u8]) -> Option<(Self, &[u8])> {
+        let (letter, rest) = split_letter(text)?;
+        Some((Self::from_field(&[letter])?, rest))
+    }
 }
 
 impl FromField for Side {
@@ -53,6 +71,11 @@ impl FromField for Side {
             _ => None,
         }
     }
+
+    fn take(text: &[u8]) -> Option<(Self, &[u8])> {
+        let (letter, rest) = split_letter(text)?;
+        Some((Self::from_field(&[letter])?, rest))
+    }
 }
 
 impl FromField for Status {
@@ -65,6 +88,11 @@ impl FromField for Status {
             [b'B'] => Some(Status::Blocked),
             _ => None,
         }
+    }
+
+    fn take(text: &[u8]) -> Option<(Self, &[u8])> {
+        let (letter, rest) = split_letter(text)?;
+        Some((Self::from_field(&[letter])?, rest))
     }
 }
 
@@ -116,8 +144,7 @@ pub fn read_as<T: FromField>(rest: &[u8], place: usize) -> Result<(T, &[u8]), Re
     let [b',', text @ ..] = rest else {
         return Err(Ground::FieldCount.at(place));
     };
-    let (field, rest) = cut(text, b',');
-    let Some(value) = T::from_field(field) else {
+    let Some((value, rest)) = T::take(text) else {
         return Err(Ground::BadField.at(place));
     };
     Ok((value, rest))

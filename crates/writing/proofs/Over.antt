@@ -1,5 +1,6 @@
 -- Writing one part behind another.
-use Rattle.std.proofs.Common.{◌≡◌, ℕ, zero, suc, ◌+◌, ◌≤◌, Bool, true, false, cond, leb, List, [], ◌∷◌, ◌++◌, length, take, drop, set, Ok, Err, Result, sym, refl, ap, ◌∙◌, arith}
+use Rattle.std.proofs.Common.{◌≡◌, ℕ, zero, suc, ◌+◌, ◌≤◌, Bool, true, false, cond, leb, List, [], ◌∷◌, ◌++◌, length, take, drop, set, Ok, Err, Result, sym, refl, ap, ap₂, ◌∙◌, arith, take-append-drop}
+use Rattle.std.proofs.lemmas.List.{drop-drop}
 use borrow.Rule.Slice.PartMut.{put_mid}
 use Rattle.fields.specs.declared.answer.Refusal.{Refusal}
 use Rattle.std.proofs.lemmas.Bool.{leb-true}
@@ -42,6 +43,15 @@ pub put_over : (xs : List ℕ) (at : ℕ) (bs : List ℕ) → at + length bs ≤
 put_over xs zero bs h = put_front xs bs (omega arith)
 put_over [] (suc at) bs h = absurd (omega arith)
 put_over (x ∷ xs) (suc at) bs h = ap (λ l. x ∷ l) (put_over xs at bs (omega arith))
+
+-- bytes that were written up to `end`, and nothing else
+pub ending_over : (xs ys : List ℕ) (at start end : ℕ) (bs : List ℕ) → start + length bs ≡ end → end ≡ at + length bs → end ≤ length xs
+    → drop start ys ≡ bs ++ drop end xs → take start ys ≡ take start xs → ys ≡ over xs at bs
+ending_over xs ys at start end bs s e h behind before =
+    let here : start ≡ at = omega arith in
+    let last : drop end xs ≡ drop (length bs) (drop at xs) = ap (λ k. drop k xs) e ∙ sym (drop-drop (length bs) at xs) in
+    sym (take-append-drop start ys) ∙ ap₂ (λ a b. a ++ b) (before ∙ ap (λ k. take k xs) here) (behind ∙ ap (λ l. bs ++ l) last)
+    ∙ put_over xs at bs (omega arith)
 
 -- bytes that fit can be taken out again
 pub take_over : (xs bs : List ℕ) → length bs ≤ length xs → take (length bs) (over xs 0 bs) ≡ bs

@@ -12,4 +12,4 @@ returns g c =
     let here = λ (x : g.row.R.Denot). eqb (g.R.Keyed.key x) c.args.wanted in
     let is : c.position.result ≡ place_from g.R.Keyed.key c.args.wanted 0 xs =
     position_from_yields_List here _ _ c.position.result c.position.ensures.ran (YieldsList-from_slice xs cc) (λ x b q k. search (rules, tests)) ∙ position_from-zero here xs in
-    record { place = is; found = found_at g.R.Keyed.key c.args.wanted xs _ is }
+    record { place = (search (rules, is)); found = found_at g.R.Keyed.key c.args.wanted xs _ (search (rules, is)) }
