@@ -1,5 +1,5 @@
 // Accounts on hold.
-ghost use Rattle.std.specs.Prelude.{◌≡◌, ◌≤◌, ℕ, true, false, List, [], length, refl, IfErr, MatchResult};
+ghost use Rattle.std.specs.Prelude.{◌≡◌, ◌≤◌, ℕ, true, false, List, [], length, refl, IfErr, MatchResult, OnErr};
 ghost use Rattle.keyed.specs.Places.{below};
 ghost use Rattle.layers.specs.Codes.{held as is_held, rising, hold_codes, hold_answer, release_codes, release_answer};
 ghost use Rattle.layers.specs.Layers.{hold_account};
@@ -54,6 +54,7 @@ impl<R> Hold<R> {
         ensures answer { result ≡ hold_answer code self.old.view.codes.items }
         ensures codes { self.new.view.codes.items ≡ hold_codes code self.old.view.codes.items }
         ensures below { self.new.below ≡ self.old.below }
+        ensures same { OnErr result (self.new ≡ self.old) }
     {
         self.view.enter(code)
     }
@@ -63,6 +64,7 @@ impl<R> Hold<R> {
         ensures answer { result ≡ release_answer code }
         ensures codes { self.new.view.codes.items ≡ release_codes code self.old.view.codes.items }
         ensures below { self.new.below ≡ self.old.below }
+        ensures same { OnErr result (self.new ≡ self.old) }
     {
         self.view.take_out(code)
     }
@@ -103,6 +105,7 @@ impl Held {
     fn enter(&mut self, code: u32) -> Result<(), Refusal>
         ensures answer { result ≡ hold_answer code self.old.codes.items }
         ensures codes { self.new.codes.items ≡ hold_codes code self.old.codes.items }
+        ensures same { OnErr result (self.new ≡ self.old) }
     {
         ACCOUNT.test(code as u64, 1)?;
         let Err(at) = self.seek(code) else {
@@ -119,6 +122,7 @@ impl Held {
     fn take_out(&mut self, code: u32) -> Result<(), Refusal>
         ensures answer { result ≡ release_answer code }
         ensures codes { self.new.codes.items ≡ release_codes code self.old.codes.items }
+        ensures same { OnErr result (self.new ≡ self.old) }
     {
         ACCOUNT.test(code as u64, 1)?;
         self.codes.retain(|held| *held != code);
